@@ -1,0 +1,113 @@
+-- The leading digits of n hold no more than n, and those of d with one more no less than d.
+use Prim.Native.Nat.{ℕ, _*_, _+_, _/_, _^_, _<_, _≤_}
+use mathlib.Core.Path.{_≡_, sym}
+use native.Mathlib.Omega.{arith}
+use Rattle.exact.specs.Value.{short, long}
+use Rattle.exact.proofs.Quotient.{leading}
+use borrow.Author.Needs.{needs}
+use Rattle.exact.proofs.divide.leading.Statement.{statement}
+use Rattle.exact.proofs.divide.leading.Tie as tie
+
+low-fits : (h l : ℕ) → l * 1 ≤ h * 2 ^ 64 + l
+low-fits h l = omega arith
+
+middle-fits : (h l : ℕ) → (h * 2147483648 + l / 8589934592) * 2 ^ 33 ≤ h * 2 ^ 64 + l
+middle-fits h l = omega arith
+
+middle-holds : (x y z : ℕ) → z < 2 ^ 32 → (x * 2 ^ 32 + y) * 2 ^ 32 + z ≤ ((x * 2 ^ 32 + y) / 2 + 1) * 2 ^ 33
+middle-holds x y z p = omega arith
+
+high-fits : (h l : ℕ) → h * 2 ^ 64 ≤ h * 2 ^ 64 + l
+high-fits h l = omega arith
+
+high-holds : (x y z : ℕ) → y < 2 ^ 32 → z < 2 ^ 32 → (x * 2 ^ 32 + y) * 2 ^ 32 + z ≤ (x + 1) * 2 ^ 64
+high-holds x y z p q = omega arith
+
+d-low : (c : tie.Start) → c .args .d .low < 2 ^ 32
+d-low c = omega arith
+
+d-middle : (c : tie.Start) → c .args .d .middle < 2 ^ 32
+d-middle c = omega arith
+
+-- where the high digit is 0 the other two are all of d
+alone : (c : tie.After-struct-known) → short (c .before .before .before .before .args .d) ≡ c .before .pair .result
+unfolding short
+alone c = omega arith
+
+pair-requires : tie.Need-pair-requires
+pair-requires c κs = search needs
+
+div-result : tie.Need-div-result
+div-result c =
+    let e = alone c in
+    let pos : 0 < short (c .before .before .before .before .args .d) = c .before .before .before .before .pre in
+    omega arith
+
+returns : tie.Need-returns
+unfolding long
+returns c =
+    let n = c .before .before .before .before .args .n in
+    leading 1 (n .low) (c .before .pair .result) (long n) (short (c .before .before .before .before .args .d)) (low-fits (n .high) (n .low))
+    (let e = alone c in omega arith)
+
+returns-2 : tie.Need-returns-2
+returns-2 c = search needs
+
+mul-result : tie.Need-mul-result
+mul-result c = search needs
+
+add-result : tie.Need-add-result
+add-result c = search needs
+
+pair-requires-2 : tie.Need-pair-requires-2
+pair-requires-2 c κs = search needs
+
+add-result-2 : tie.Need-add-result-2
+add-result-2 c = search needs
+
+div-result-2 : tie.Need-div-result-2
+div-result-2 c = search needs
+
+returns-3 : tie.Need-returns-3
+unfolding short long
+returns-3 c =
+    let n = c .before .before .before .before .args .n in
+    let d = c .before .before .before .before .args .d in
+    leading (2 ^ 33) (n .high * 2147483648 + n .low / 8589934592) (c .pair2 .result / 2 + 1) (long n) (short d)
+    (middle-fits (n .high) (n .low)) (rw (c .pair2 .ensures) (middle-holds (d .high) (d .middle) (d .low) (d-low (c .before .before .before .before))))
+
+cast-result : tie.Need-cast-result
+cast-result c = search needs
+
+add-result-3 : tie.Need-add-result-3
+add-result-3 c = search needs
+
+div-result-3 : tie.Need-div-result-3
+div-result-3 c = search needs
+
+returns-4 : tie.Need-returns-4
+unfolding short long
+returns-4 c =
+    let n = c .before .before .args .n in
+    let d = c .before .before .args .d in
+    leading (2 ^ 64) (n .high) (d .high + 1) (long n) (short d)
+    (high-fits (n .high) (n .low)) (high-holds (d .high) (d .middle) (d .low) (d-middle (c .before .before)) (d-low (c .before .before)))
+
+pub leading-spec : {M : Type 1} → statement M
+leading-spec =
+    tie.close
+    (tie.spec
+    pair-requires
+    div-result
+    returns
+    returns-2
+    mul-result
+    add-result
+    pair-requires-2
+    add-result-2
+    div-result-2
+    returns-3
+    cast-result
+    add-result-3
+    div-result-3
+    returns-4)

@@ -1,0 +1,2 @@
+-- Definitions of the crate `exact`.
+pub mod Value

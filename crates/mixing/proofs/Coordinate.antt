@@ -1,0 +1,114 @@
+-- Where numerator and divisor are linear, the nearest quotient of a mixture lies between those of its parts that are not dark.
+use mathlib.Core.Path.{_≡_, ap, ap₂, sym, subst}
+use mathlib.Core.List.{List, [], _∷_}
+use Prim.Native.Nat.{ℕ, zero, suc, _+_, _*_, _≤_, _<_, min, max}
+use native.Mathlib.Nat.{le-refl}
+use native.Mathlib.Omega.{arith}
+use lib.ListN.{length, replicate}
+use Rattle.mixing.specs.Nearest.{nearest}
+use Rattle.mixing.specs.Mixture.{mix, mixture, Each, Rows, Linear}
+use Rattle.mixing.specs.Promise.{Between, Coordinate}
+use Rattle.mixing.proofs.Nearest.{le-nearest, nearest-lt}
+use Rattle.mixing.proofs.Mixture.{length-mixture, mix-zeros, linear-zeros}
+
+-- a is at most the nearest of n / d, as products say it, and so where d is 0
+low : (a n d : ℕ) → (0 < d → a ≤ nearest n d) → a * (2 * d) ≤ 2 * n + d
+low a n zero h = omega arith
+low a n (suc d) h = le-nearest n (suc d) (omega arith) a .0 (h (omega arith))
+
+-- the nearest of n / d is at most b, as products say it, unless d and n are 0
+High : (b n d : ℕ) → Type 0
+High b n d = 0 < d → 2 * n + d < (b + 1) * (2 * d)
+
+high : (b n d : ℕ) → (0 < d → nearest n d ≤ b) → High b n d
+unfolding High
+high b n d h pos = let l : nearest n d ≤ b = h pos in nearest-lt n d pos (b + 1) .0 (omega arith)
+
+high-add :
+    (b n d m e : ℕ) → (d ≡ 0 → n ≡ 0) → (e ≡ 0 → m ≡ 0) → High b n d → High b m e → High b (n + m) (d + e)
+unfolding High
+high-add b n zero m zero p q f g pos = absurd (omega arith)
+high-add b n zero m (suc e) p q f g pos =
+    let z : n ≡ 0 = p (omega arith) in
+    let l : 2 * m + suc e < (b + 1) * (2 * suc e) = g (omega arith) in
+    omega arith
+high-add b n (suc d) m zero p q f g pos =
+    let z : m ≡ 0 = q (omega arith) in
+    let l : 2 * n + suc d < (b + 1) * (2 * suc d) = f (omega arith) in
+    omega arith
+high-add b n (suc d) m (suc e) p q f g pos =
+    let k : 2 * n + suc d < (b + 1) * (2 * suc d) = f (omega arith) in
+    let l : 2 * m + suc e < (b + 1) * (2 * suc e) = g (omega arith) in
+    omega arith
+
+module _ (n : ℕ) (N D : List ℕ → ℕ) (num : Linear n N) (den : Linear n D) (dark : (xs : List ℕ) → D xs ≡ 0 → N xs ≡ 0) where
+  abbrev coordinate : List ℕ → ℕ
+  coordinate xs = nearest (N xs) (D xs)
+
+  sum-low :
+      (a : ℕ) (xss : List (List ℕ)) → Rows n xss → Each (λ xs. 0 < D xs → a ≤ coordinate xs) xss →
+      a * (2 * D (mixture n xss)) ≤ 2 * N (mixture n xss) + D (mixture n xss)
+  unfolding mixture
+  sum-low a [] r h = let z : D (replicate n 0) ≡ 0 = linear-zeros n D den in low a (N (replicate n 0)) (D (replicate n 0)) (λ p. absurd (omega arith))
+  sum-low a (xs ∷ xss) r h =
+      let rest : List ℕ = mixture n xss in
+      let l : length rest ≡ n = length-mixture n xss (r .1) in
+      let one : a * (2 * D xs) ≤ 2 * N xs + D xs = low a (N xs) (D xs) (h .0) in
+      let all : a * (2 * D rest) ≤ 2 * N rest + D rest = sum-low a xss (r .1) (h .1) in
+      let e : N (mix xs rest) ≡ N xs + N rest = num .adds xs rest (r .0) l in
+      let f : D (mix xs rest) ≡ D xs + D rest = den .adds xs rest (r .0) l in
+      let g : a * (2 * D (mix xs rest)) ≡ a * (2 * (D xs + D rest)) = ap (λ (d : ℕ). a * (2 * d)) f in
+      omega arith
+
+  sum-high :
+      (b : ℕ) (xss : List (List ℕ)) → Rows n xss → Each (λ xs. 0 < D xs → coordinate xs ≤ b) xss →
+      High b (N (mixture n xss)) (D (mixture n xss))
+  unfolding mixture
+  sum-high b [] r h = let z : D (replicate n 0) ≡ 0 = linear-zeros n D den in high b (N (replicate n 0)) (D (replicate n 0)) (λ p. absurd (omega arith))
+  sum-high b (xs ∷ xss) r h =
+      let rest : List ℕ = mixture n xss in
+      let l : length rest ≡ n = length-mixture n xss (r .1) in
+      rw (num .adds xs rest (r .0) l, den .adds xs rest (r .0) l)
+      (high-add b (N xs) (D xs) (N rest) (D rest) (dark xs) (dark rest) (high b (N xs) (D xs) (h .0)) (sum-high b xss (r .1) (h .1)))
+
+  least :
+      (a : ℕ) (xss : List (List ℕ)) → Rows n xss → Each (λ xs. 0 < D xs → a ≤ coordinate xs) xss →
+      0 < D (mixture n xss) → a ≤ coordinate (mixture n xss)
+  least a xss r h pos = le-nearest (N (mixture n xss)) (D (mixture n xss)) pos a .1 (sum-low a xss r h)
+
+  greatest :
+      (b : ℕ) (xss : List (List ℕ)) → Rows n xss → Each (λ xs. 0 < D xs → coordinate xs ≤ b) xss →
+      0 < D (mixture n xss) → coordinate (mixture n xss) ≤ b
+  unfolding High
+  greatest b xss r h pos =
+      let l : coordinate (mixture n xss) < b + 1 =
+      nearest-lt (N (mixture n xss)) (D (mixture n xss)) pos (b + 1) .1 (sum-high b xss r h pos) in
+      omega arith
+
+  two :
+      (xs ys : List ℕ) → length xs ≡ n → length ys ≡ n → 0 < D xs → 0 < D ys →
+      Between (coordinate xs) (coordinate ys) (coordinate (mix xs ys))
+  unfolding mixture
+  two xs ys p q pos pos′ =
+      let both : List (List ℕ) = xs ∷ ys ∷ [] in
+      let e : mixture n both ≡ mix xs ys = ap (λ (zs : List ℕ). mix xs zs) (mix-zeros n ys q) in
+      let f : D (mix xs ys) ≡ D xs + D ys = den .adds xs ys p q in
+      let lit : 0 < D (mixture n both) = rw e (omega arith) in
+      record {
+        low = rw e at (least (min (coordinate xs) (coordinate ys)) both (p, (q, tt)) ((λ h. omega arith), ((λ h. omega arith), tt)) lit);
+        high = rw e at (greatest (max (coordinate xs) (coordinate ys)) both (p, (q, tt)) ((λ h. omega arith), ((λ h. omega arith), tt)) lit);
+      }
+
+  one-dark :
+      (xs ys : List ℕ) → length xs ≡ n → length ys ≡ n → D xs ≡ 0 → 0 < D ys →
+      (coordinate (mix xs ys) ≡ coordinate ys) × (coordinate (mix ys xs) ≡ coordinate ys)
+  one-dark xs ys p q z pos =
+      let y : N xs ≡ 0 = dark xs z in
+      let a : N (mix xs ys) ≡ N xs + N ys = num .adds xs ys p q in
+      let b : D (mix xs ys) ≡ D xs + D ys = den .adds xs ys p q in
+      let c : N (mix ys xs) ≡ N ys + N xs = num .adds ys xs q p in
+      let d : D (mix ys xs) ≡ D ys + D xs = den .adds ys xs q p in
+      (ap₂ nearest (omega arith) (omega arith), ap₂ nearest (omega arith) (omega arith))
+
+  pub between : Coordinate n D coordinate
+  between = record { least = least; greatest = greatest; two = two; one-dark = one-dark }

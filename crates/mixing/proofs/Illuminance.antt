@@ -1,0 +1,81 @@
+-- Where the numerator is linear and the divisor fixed, the nearest quotient keeps to half a unit a row, and to the order.
+use mathlib.Core.Path.{_≡_, ap}
+use mathlib.Core.List.{List, [], _∷_, map}
+use Prim.Native.Nat.{ℕ, suc, _+_, _*_, _/_, _≤_, _<_}
+use native.Mathlib.Nat.{le-refl, lt-of-mul-lt-mul-right}
+use native.Mathlib.Omega.{arith}
+use lib.ListN.{length, replicate}
+use Rattle.mixing.specs.Nearest.{nearest}
+use Rattle.mixing.specs.Sum.{sumOf}
+use Rattle.mixing.specs.Mixture.{mix, mixture, Rows, Linear}
+use Rattle.mixing.specs.Promise.{Within, Illuminance}
+use Rattle.mixing.proofs.Nearest.{le-nearest, nearest-lt}
+use Rattle.mixing.proofs.Mixture.{length-mixture, mix-zeros, linear-order, linear-zeros}
+
+module _ (n d : ℕ) (F : List ℕ → ℕ) (lin : Linear n F) (pos : 0 < d) where
+  abbrev reading : List ℕ → ℕ
+  reading xs = nearest (F xs) d
+
+  -- twice a reading is within one divisor of twice its numerator
+  reading-high : (xs : List ℕ) → reading xs * (2 * d) ≤ 2 * F xs + d
+  reading-high xs = le-nearest (F xs) d pos (reading xs) .0 (le-refl (reading xs))
+
+  reading-low : (xs : List ℕ) → 2 * F xs + d < (reading xs + 1) * (2 * d)
+  reading-low xs = nearest-lt (F xs) d pos (reading xs + 1) .0 (omega arith)
+
+  -- and so for the sum of readings, with a divisor a row
+  pub sum-high : (xss : List (List ℕ)) → Rows n xss → sumOf (map reading xss) * (2 * d) ≤ 2 * F (mixture n xss) + length xss * d
+  unfolding sumOf mixture
+  sum-high [] r = omega arith
+  sum-high (xs ∷ xss) r =
+      let a : reading xs * (2 * d) ≤ 2 * F xs + d = reading-high xs in
+      let b : sumOf (map reading xss) * (2 * d) ≤ 2 * F (mixture n xss) + length xss * d = sum-high xss (r .1) in
+      let e : F (mix xs (mixture n xss)) ≡ F xs + F (mixture n xss) =
+      lin .adds xs (mixture n xss) (r .0) (length-mixture n xss (r .1)) in
+      omega arith
+
+  pub sum-low :
+      (xss : List (List ℕ)) → Rows n xss →
+      2 * F (mixture n xss) + length xss ≤ sumOf (map reading xss) * (2 * d) + length xss * d
+  unfolding sumOf mixture
+  sum-low [] r = let z : F (replicate n 0) ≡ 0 = linear-zeros n F lin in omega arith
+  sum-low (xs ∷ xss) r =
+      let a : 2 * F xs + d < (reading xs + 1) * (2 * d) = reading-low xs in
+      let b : 2 * F (mixture n xss) + length xss ≤ sumOf (map reading xss) * (2 * d) + length xss * d = sum-low xss (r .1) in
+      let e : F (mix xs (mixture n xss)) ≡ F xs + F (mixture n xss) =
+      lin .adds xs (mixture n xss) (r .0) (length-mixture n xss (r .1)) in
+      omega arith
+
+  many :
+      (xs : List ℕ) (xss : List (List ℕ)) → Rows n (xs ∷ xss) →
+      Within (length (xs ∷ xss) / 2) (reading (mixture n (xs ∷ xss))) (sumOf (map reading (xs ∷ xss)))
+  many xs xss r =
+      let all : List (List ℕ) = xs ∷ xss in
+      let q : ℕ = reading (mixture n all) in
+      let s : ℕ = sumOf (map reading all) in
+      let k : ℕ = length all in
+      let q-high : q * (2 * d) ≤ 2 * F (mixture n all) + d = reading-high (mixture n all) in
+      let q-low : 2 * F (mixture n all) + d < (q + 1) * (2 * d) = reading-low (mixture n all) in
+      let s-high : s * (2 * d) ≤ 2 * F (mixture n all) + k * d = sum-high all r in
+      let s-low : 2 * F (mixture n all) + k ≤ s * (2 * d) + k * d = sum-low all r in
+      let above : 2 * q < 2 * s + k + 1 = lt-of-mul-lt-mul-right d (omega arith) in
+      let below : 2 * s < 2 * q + k + 1 = lt-of-mul-lt-mul-right d (omega arith) in
+      record { above = omega arith; below = omega arith }
+
+  two : (xs ys : List ℕ) → length xs ≡ n → length ys ≡ n → Within 1 (reading (mix xs ys)) (reading xs + reading ys)
+  unfolding sumOf mixture
+  two xs ys p q =
+      let w : Within 1 (reading (mix xs (mix ys (replicate n 0)))) (reading xs + (reading ys + 0)) = many xs (ys ∷ []) (p, (q, tt)) in
+      let e : reading (mix xs (mix ys (replicate n 0))) ≡ reading (mix xs ys) =
+      ap (λ (zs : List ℕ). reading (mix xs zs)) (mix-zeros n ys q) in
+      record { above = omega arith; below = omega arith }
+
+  pub illuminance : Illuminance n reading
+  illuminance = record {
+    many = many;
+    two = two;
+    order = λ xs ys p q b.
+        let high : reading xs * (2 * d) ≤ 2 * F xs + d = reading-high xs in
+        let less : F xs ≤ F ys = linear-order n F lin xs ys p q b in
+        le-nearest (F ys) d pos (reading xs) .1 (omega arith);
+  }

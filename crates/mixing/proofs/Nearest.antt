@@ -1,0 +1,26 @@
+-- Laws of the nearest whole number: it is compared by products, and needs no doubling.
+use mathlib.Core.Path.{_≡_, _∙_, sym, ap}
+use mathlib.Core.Logic.{_↔_}
+use Prim.Native.Nat.{ℕ, _+_, _*_, _/_, _≤_, _<_}
+use native.Mathlib.Nat.{le-div-iff-mul-le, div-lt-iff-lt-mul, div-div-eq-div-mul, mul-add-div}
+use native.Mathlib.Omega.{arith}
+use Rattle.mixing.specs.Nearest.{nearest}
+
+module _ (n d : ℕ) (pos : 0 < d) where
+  double : 0 < 2 * d
+  double = omega arith
+
+  -- q is at most the nearest of n / d exactly if q · 2d is at most 2n + d
+  pub le-nearest : (q : ℕ) → (q ≤ nearest n d) ↔ (q * (2 * d) ≤ 2 * n + d)
+  unfolding nearest
+  le-nearest q = le-div-iff-mul-le double
+
+  pub nearest-lt : (q : ℕ) → (nearest n d < q) ↔ (2 * n + d < q * (2 * d))
+  unfolding nearest
+  nearest-lt q = div-lt-iff-lt-mul double
+
+-- half the divisor is added, and the quotient rounded down
+pub nearest-half : (n d : ℕ) → nearest n d ≡ (n + d / 2) / d
+unfolding nearest
+nearest-half n d =
+    sym (div-div-eq-div-mul (2 * n + d) 2 d) ∙ ap (λ (x : ℕ). x / d) (mul-add-div (omega arith) n d)

@@ -1,0 +1,17 @@
+-- Sums over places, and weighted sums.
+use mathlib.Core.List.{List, [], _∷_}
+use Prim.Native.Nat.{ℕ, zero, suc, _+_, _*_}
+
+-- the sum of f at the places below n
+unfoldable pub total : ℕ → (ℕ → ℕ) → ℕ
+total zero f = 0
+total (suc n) f = total n f + f n
+
+-- the sum of weight times line at the places below n
+unfoldable pub weighted : ℕ → (ℕ → ℕ) → (ℕ → ℕ) → ℕ
+weighted n v t = total n (λ k. v k * t k)
+
+-- the sum of a list
+unfoldable pub sumOf : List ℕ → ℕ
+sumOf [] = 0
+sumOf (x ∷ xs) = x + sumOf xs
