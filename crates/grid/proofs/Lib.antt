@@ -1,0 +1,3 @@
+-- Laws of the checks.
+pub mod Limit
+pub mod Accepted

@@ -1,0 +1,61 @@
+-- The loop's invariant: no sample passed is above the limit.
+use Prim.Native.Nat.{ℕ, _-_, _≤_, _<_}
+use mathlib.Core.Path.{sym}
+use native.Mathlib.Nat.{zero-add}
+use borrow.Author.Count.{below-more}
+use borrow.Author.Needs.{needs}
+use native.Mathlib.Omega.{arith}
+use lib.ListN.{length, getD}
+use Rattle.grid.proofs.Limit.{within-row, within-fine, first-fault}
+use Rattle.grid.proofs.first_fault.Statement.{statement}
+use Rattle.grid.proofs.first_fault.Tie as tie
+
+abbrev Inv-loop : tie.InvT-loop
+Inv-loop samples k₀ k-end k = (k ≤ length samples) × ((j : ℕ) → j < k → getD samples j 0 ≤ 1000000)
+
+abbrev μ-loop : tie.MeasureT-loop
+μ-loop samples k₀ k-end k = length samples - k
+
+loop-holds : tie.Need-loop-holds Inv-loop μ-loop
+loop-holds c = (omega arith, λ j l. absurd (omega arith))
+
+mul-if1 : tie.Need-mul-if1 Inv-loop μ-loop
+mul-if1 c = search needs
+
+shared-slice-read-if1 : tie.Need-shared-slice-read-if1 Inv-loop μ-loop
+shared-slice-read-if1 c = omega arith
+
+returns : tie.Need-returns Inv-loop μ-loop
+returns c =
+    let xs = c .before .before .before .before .args .samples .now in
+    let k = c .before .before .before .loop .k in
+    sym (rw zero-add at (first-fault 4 1000000 0 xs k (c .before .before .loop-test .taken) (c .before .before .before .loop .inv .1) (c .if1 .taken)))
+
+add-k : tie.Need-add-k Inv-loop μ-loop
+add-k c = omega arith
+
+loop-less : tie.Need-loop-less Inv-loop μ-loop
+loop-less c = omega arith
+
+loop-again : tie.Need-loop-again Inv-loop μ-loop
+loop-again c = (omega arith, below-more (λ j. getD (c .before .before .before .before .args .samples .now) j 0 ≤ 1000000) (c .before .before .before .loop .k) (c .before .before .before .loop .inv .1) (c .if1 .left))
+
+returns-2 : tie.Need-returns-2 Inv-loop μ-loop
+returns-2 c =
+    let xs = c .before .before .args .samples .now in
+    sym (within-fine 4 1000000 0 xs (within-row 1000000 xs (λ k l. c .before .loop .inv .1 k (omega arith))))
+
+pub first-fault-spec : {M : Type 1} → statement M
+first-fault-spec =
+    tie.close
+    (tie.spec
+    Inv-loop
+    μ-loop
+    loop-holds
+    mul-if1
+    shared-slice-read-if1
+    returns
+    add-k
+    loop-less
+    loop-again
+    returns-2)

@@ -1,0 +1,2 @@
+-- Definitions of the crate `grid`.
+pub mod Check

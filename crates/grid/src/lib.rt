@@ -1,0 +1,116 @@
+// Refusals, and the checks that every spectrum, panel and record shares: step, start, count, and the limit of a sample.
+ghost use mathlib.Core.Path.{_≡_};
+ghost use mathlib.Core.Bool.{true};
+ghost use Rattle.grid.specs.Check.{gridCheck, isStep, isStart, isCount, refusal, samplesCheck, Within};
+
+// A refusal's number, and the place of the first faulty sample for 4 and 8 (else 0).
+pub struct Refusal {
+    pub number: u32,
+    pub place: usize,
+}
+
+// What a check finds.
+pub enum Check {
+    Fine,
+    Refused(Refusal),
+}
+
+// A refusal that has no place.
+pub fn refused(number: u32) -> Check
+    ensures { λ r. ⌜ r ≡ Check.Refused (refusal number 0) ⌝ }
+{
+    Check::Refused(Refusal { number, place: 0 })
+}
+
+// STEP, START, COUNT, in this order.
+pub fn check_grid(start: u32, step: u32, count: usize) -> Check
+    ensures { λ r. ⌜ r ≡ gridCheck start step count ⌝ }
+{
+    if !is_step(step) {
+        return refused(1);
+    }
+    if !is_start(start) {
+        return refused(2);
+    }
+    if !is_count(start, step, count) {
+        return refused(3);
+    }
+    Check::Fine
+}
+
+fn is_step(step: u32) -> bool
+    ensures { λ r. ⌜ r ≡ isStep step ⌝ }
+{
+    match step {
+        1 => true,
+        2 => true,
+        5 => true,
+        10 => true,
+        _ => false,
+    }
+}
+
+fn is_start(start: u32) -> bool
+    ensures { λ r. ⌜ r ≡ isStart start ⌝ }
+{
+    if start < 300 {
+        return false;
+    }
+    start <= 380
+}
+
+fn is_count(start: u32, step: u32, count: usize) -> bool
+    requires { ⌜ (isStep step ≡ true) × (isStart start ≡ true) ⌝ }
+    ensures { λ r. ⌜ r ≡ isCount start step count ⌝ }
+{
+    if count == 0 {
+        return false;
+    }
+    // More samples than this pass 830 at every step, so the last wavelength below can't wrap.
+    if 531 < count {
+        return false;
+    }
+    let last = start + step * (count as u32 - 1);
+    if last < 780 {
+        return false;
+    }
+    last <= 830
+}
+
+// SAMPLE at the first sample above 1,000,000.
+pub fn check_samples(samples: &[u32]) -> Check
+    ensures { λ r. ⌜ r ≡ samplesCheck (now (samples .entry)) ⌝ }
+{
+    if no_fault(samples) {
+        return Check::Fine;
+    }
+    first_fault(samples)
+}
+
+// Whether all samples are within the limit: a pass with no way out, which the machine takes several at a time.
+fn no_fault(samples: &[u32]) -> bool
+    ensures { λ r. ⌜ (r ≡ true → Within 1000000 (now (samples .entry))) ⌝ }
+{
+    let mut fine = true;
+    for k in 0..samples.len() {
+        if 1000000 < samples[k] {
+            fine = false;
+        }
+    }
+    fine
+}
+
+// The place is looked for only where there is a fault.
+fn first_fault(samples: &[u32]) -> Check
+    ensures { λ r. ⌜ r ≡ samplesCheck (now (samples .entry)) ⌝ }
+{
+    for k in 0..samples.len() {
+        if 1000000 < samples[k] {
+            return Check::Refused(Refusal {
+                number: 4,
+                place: k,
+            });
+        }
+    }
+    Check::Fine
+}
