@@ -2,7 +2,7 @@
 use mathlib.Core.Path.{_≡_, _∙_, sym, ap}
 use mathlib.Core.Logic.{_↔_}
 use Prim.Native.Nat.{ℕ, _+_, _*_, _/_, _≤_, _<_}
-use native.Mathlib.Nat.{le-div-iff-mul-le, div-lt-iff-lt-mul, div-div-eq-div-mul, mul-add-div}
+use native.Mathlib.Nat.{le-div-iff-mul-le, div-lt-iff-lt-mul, div-div-eq-div-mul, div-eq-of-eq-mul-left, mul-add-div}
 use native.Mathlib.Omega.{arith}
 use Rattle.mixing.specs.Nearest.{nearest}
 
@@ -24,3 +24,9 @@ pub nearest-half : (n d : ℕ) → nearest n d ≡ (n + d / 2) / d
 unfolding nearest
 nearest-half n d =
     sym (div-div-eq-div-mul (2 * n + d) 2 d) ∙ ap (λ (x : ℕ). x / d) (mul-add-div (omega arith) n d)
+
+pub halves-up : (n d : ℕ) → 0 < d → nearest ((2 * n + 1) * d) (2 * d) ≡ n + 1
+unfolding nearest
+halves-up n d pos =
+    let double : 0 < 2 * (2 * d) = omega arith in
+    div-eq-of-eq-mul-left double (omega arith)

@@ -1,8 +1,9 @@
 -- Laws of sums over places: equal and ordered terms, sums of sums, and a factor.
 use mathlib.Core.Path.{_≡_, refl, _∙_, sym, ap, ap₂}
-use mathlib.Core.List.{List, [], _∷_}
-use Prim.Native.Nat.{ℕ, zero, suc, _+_, _*_, _≤_, _<_}
-use native.Mathlib.Nat.{le-refl, le-trans, add-le-add, mul-add, mul-zero}
+use Prim.Native.Nat.{ℕ, zero, suc, _+_, _*_, _/_, _%_, _≤_, _<_}
+use native.Mathlib.Nat.{le-refl, le-trans, le-of-eq, add-le-add, mul-add, mul-zero, mul-comm, mul-le-mul-right, div-add-mod'}
+use native.Mathlib.Numerals.{add-one}
+use native.Mathlib.Decide.{le-ind}
 use native.Mathlib.Omega.{arith}
 use Rattle.mixing.specs.Sum.{total, weighted}
 
@@ -25,3 +26,31 @@ pub total-mul : (c n : ℕ) (f : ℕ → ℕ) → total n (λ k. c * f k) ≡ c 
 unfolding total
 total-mul c zero f = sym (mul-zero c)
 total-mul c (suc n) f = ap (λ (x : ℕ). x + c * f n) (total-mul c n f) ∙ sym (mul-add c (total n f) (f n))
+
+-- more places add up to no less
+pub total-more : (k n : ℕ) (f : ℕ → ℕ) → k ≤ n → total k f ≤ total n f
+unfolding total
+total-more k n f h = le-ind (λ m. total k f ≤ total m f) (le-refl (total k f)) (λ m l p. omega arith) n h
+
+-- a bound on the line bounds the weighted sum, so far and in all
+pub weighted-bound :
+    (bound k n : ℕ) (v t : ℕ → ℕ) → ((j : ℕ) → t j ≤ bound) → k ≤ n → weighted k v t ≤ bound * total n v
+unfolding weighted
+weighted-bound bound k n v t h l =
+    le-trans
+    (total-le k (λ j. v j * t j) (λ j. bound * v j) (λ j p. rw (mul-comm (v j) (t j)) (mul-le-mul-right (v j) (h j))))
+    (le-trans (total-more k n (λ j. bound * v j) l) (le-of-eq (total-mul bound n v)))
+
+pub weighted-one : (k : ℕ) (v t : ℕ → ℕ) → weighted (k + 1) v t ≡ weighted k v t + v k * t k
+unfolding weighted total
+weighted-one k v t = rw add-one
+
+-- weights that are split at a base B add up to the whole
+pub weighted-split :
+    (B n : ℕ) (v t : ℕ → ℕ) → weighted n (λ k. v k / B) t * B + weighted n (λ k. v k % B) t ≡ weighted n v t
+unfolding weighted total
+weighted-split B zero v t = omega arith
+weighted-split B (suc n) v t =
+    let ih : weighted n (λ k. v k / B) t * B + weighted n (λ k. v k % B) t ≡ weighted n v t = weighted-split B n v t in
+    let e : (v n / B * B + v n % B) * t n ≡ v n * t n = ap (λ (x : ℕ). x * t n) (div-add-mod' (v n) B) in
+    omega arith

@@ -42,6 +42,8 @@ pub record Coordinate (n : ℕ) (divisor coordinate : List ℕ → ℕ) : Type 0
       (coordinate (mix xs ys) ≡ coordinate ys) × (coordinate (mix ys xs) ≡ coordinate ys)
 
 pub record Promise : Type 0 where
+  -- a number and a half goes up
+  pub halves-up : (n d : ℕ) → 0 < d → nearest ((2 * n + 1) * d) (2 * d) ≡ n + 1
   pub illuminance :
       (n d : ℕ) (F : List ℕ → ℕ) → Linear n F → 0 < d → Illuminance n (λ xs. nearest (F xs) d)
   pub coordinate :

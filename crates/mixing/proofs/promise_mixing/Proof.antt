@@ -1,11 +1,12 @@
--- The promise is its two theorems.
+-- The promise is its theorems.
+use Rattle.mixing.proofs.Nearest.{halves-up}
 use Rattle.mixing.proofs.Illuminance.{illuminance}
 use Rattle.mixing.proofs.Coordinate.{between}
 use Rattle.mixing.proofs.promise_mixing.Statement.{statement}
 use Rattle.mixing.proofs.promise_mixing.Tie as tie
 
 returns : tie.Need-returns
-returns c = record { illuminance = illuminance; coordinate = between }
+returns c = record { halves-up = halves-up; illuminance = illuminance; coordinate = between }
 
 pub promise-mixing-spec : {M : Type 1} → statement M
 promise-mixing-spec = tie.close (tie.spec returns)

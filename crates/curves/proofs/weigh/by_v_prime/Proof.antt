@@ -1,0 +1,16 @@
+-- The table that is lent is the definition's.
+use Rattle.curves.specs.Tables.{vPrime}
+use Rattle.curves.proofs.Halves.{vPrime-halves}
+use Rattle.curves.proofs.weigh.by_v_prime.Statement.{statement}
+use Rattle.curves.proofs.weigh.by_v_prime.Tie as tie
+
+sum-requires : tie.Need-sum-requires
+unfolding vPrime
+sum-requires c κs = (vPrime-halves, c .before .pre)
+
+returns : tie.Need-returns
+unfolding vPrime
+returns c = c .sum .ensures
+
+pub by-v-prime-spec : {M : Type 1} → statement M
+by-v-prime-spec = tie.close (tie.spec sum-requires returns)

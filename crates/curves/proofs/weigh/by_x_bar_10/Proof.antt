@@ -1,0 +1,16 @@
+-- The table that is lent is the definition's.
+use Rattle.curves.specs.Tables.{xBar10}
+use Rattle.curves.proofs.Halves.{xBar10-halves}
+use Rattle.curves.proofs.weigh.by_x_bar_10.Statement.{statement}
+use Rattle.curves.proofs.weigh.by_x_bar_10.Tie as tie
+
+sum-requires : tie.Need-sum-requires
+unfolding xBar10
+sum-requires c κs = (xBar10-halves, c .before .pre)
+
+returns : tie.Need-returns
+unfolding xBar10
+returns c = c .sum .ensures
+
+pub by-x-bar-10-spec : {M : Type 1} → statement M
+by-x-bar-10-spec = tie.close (tie.spec sum-requires returns)

@@ -1,0 +1,16 @@
+-- The table that is lent is the definition's.
+use Rattle.curves.specs.Tables.{yBar10}
+use Rattle.curves.proofs.Halves.{yBar10-halves}
+use Rattle.curves.proofs.weigh.by_y_bar_10.Statement.{statement}
+use Rattle.curves.proofs.weigh.by_y_bar_10.Tie as tie
+
+sum-requires : tie.Need-sum-requires
+unfolding yBar10
+sum-requires c κs = (yBar10-halves, c .before .pre)
+
+returns : tie.Need-returns
+unfolding yBar10
+returns c = c .sum .ensures
+
+pub by-y-bar-10-spec : {M : Type 1} → statement M
+by-y-bar-10-spec = tie.close (tie.spec sum-requires returns)

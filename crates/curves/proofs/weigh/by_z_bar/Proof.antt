@@ -1,0 +1,16 @@
+-- The table that is lent is the definition's.
+use Rattle.curves.specs.Tables.{zBar}
+use Rattle.curves.proofs.Halves.{zBar-halves}
+use Rattle.curves.proofs.weigh.by_z_bar.Statement.{statement}
+use Rattle.curves.proofs.weigh.by_z_bar.Tie as tie
+
+sum-requires : tie.Need-sum-requires
+unfolding zBar
+sum-requires c κs = (zBar-halves, c .before .pre)
+
+returns : tie.Need-returns
+unfolding zBar
+returns c = c .sum .ensures
+
+pub by-z-bar-spec : {M : Type 1} → statement M
+by-z-bar-spec = tie.close (tie.spec sum-requires returns)

@@ -1,0 +1,4 @@
+-- Definitions of the crate `curves`.
+pub mod Tables
+pub mod Curves
+pub mod Columns
