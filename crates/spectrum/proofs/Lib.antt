@@ -1,0 +1,3 @@
+-- Laws of spectra.
+pub mod Measured
+pub mod Lay

@@ -1,0 +1,43 @@
+-- The grid's check comes first, and then the samples'.
+use mathlib.Core.Path.{_≡_, sym, _∙_}
+use lib.ListN.{length}
+use Rattle.grid.specs.declared.Check.the-variants.{Fine}
+use Rattle.grid.specs.Check.{gridCheck}
+use Rattle.spectrum.specs.Light.{lightCheck}
+use borrow.Author.Needs.{needs}
+use Rattle.spectrum.proofs.check_light.Statement.{statement}
+use Rattle.spectrum.proofs.check_light.Tie as tie
+
+check-grid-requires : tie.Need-check-grid-requires
+check-grid-requires c κs = search needs
+
+enum-told : tie.Need-enum-told
+enum-told c = search needs
+
+check-samples-requires : tie.Need-check-samples-requires
+check-samples-requires c κs = search needs
+
+enum-known-on-grid : tie.Need-enum-known-on-grid
+enum-known-on-grid c = search needs
+
+returns : tie.Need-returns
+unfolding lightCheck
+returns c =
+    let s = c .before .before .before .before .before .args in
+    let e : gridCheck (s .start) (s .step) (length (s .samples .now)) ≡ Fine = cc in
+    rw e (c .check-samples .ensures)
+
+returns-2 : tie.Need-returns-2
+unfolding lightCheck
+returns-2 c = rw (sym (c .before .before .before .check-grid .ensures) ∙ c .before .on-grid .given .1)
+
+pub check-light-spec : {M : Type 1} → statement M
+check-light-spec =
+    tie.close
+    (tie.spec
+    check-grid-requires
+    enum-told
+    check-samples-requires
+    enum-known-on-grid
+    returns
+    returns-2)

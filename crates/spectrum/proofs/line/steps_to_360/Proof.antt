@@ -1,0 +1,22 @@
+-- Above 360 the difference is 0.
+use Prim.Native.Nat.{_-_}
+use mathlib.Core.Path.{_≡_, sym}
+use native.Mathlib.Nat.{zero-div}
+use native.Mathlib.Omega.{arith}
+use borrow.Author.Needs.{needs}
+use Rattle.spectrum.proofs.line.steps_to_360.Statement.{statement}
+use Rattle.spectrum.proofs.line.steps_to_360.Tie as tie
+
+div-result : tie.Need-div-result
+div-result c = search needs
+
+returns : tie.Need-returns
+returns c =
+    let z : 360 - c .before .args .start ≡ 0 = omega arith in
+    rw (z, zero-div)
+
+returns-2 : tie.Need-returns-2
+returns-2 c = search needs
+
+pub steps-to-360-spec : {M : Type 1} → statement M
+steps-to-360-spec = tie.close (tie.spec div-result returns returns-2)

@@ -1,0 +1,3 @@
+-- Definitions of the crate `spectrum`.
+pub mod Light
+pub mod Line

@@ -1,0 +1,355 @@
+"""Light readings from a sampled spectrum: the independent second implementation.
+
+It follows the paper's words as closely as they can be written down, in exact
+whole numbers, so that another implementation can be held against it. Every
+public function answers a value (a whole number, a tuple, bytes) or `Refused`.
+
+Callers give what the paper's widths allow: settings are 32-bit unsigned,
+samples 32-bit unsigned, reflectances 16-bit unsigned.
+"""
+
+from dataclasses import dataclass
+from operator import mul
+from pathlib import Path
+
+WAVELENGTHS = range(360, 831)
+STEPS = (1, 2, 5, 10)
+
+# The refusal numbers, by the paper's names.
+(
+    STEP,
+    START,
+    COUNT,
+    SAMPLE,
+    MESOPIC,
+    OBSERVER,
+    ILLUMINANT,
+    REFLECTANCE,
+    DARK,
+    EDITION,
+    RESERVED,
+    LENGTH,
+    PADDING,
+    ROOM,
+    OVERRANGE,
+) = range(1, 16)
+
+LARGEST_SAMPLE = 1_000_000
+LARGEST_REFLECTANCE = 10_000
+LARGEST_K = 1000
+LARGEST_READING = 4_294_967_295
+LARGEST_COUNT = 531
+LONGEST_INPUT = 1_332
+
+# Weights are held at 10^13 to one and samples are micro: 10^19 in all, of
+# which a reading in thousandths takes 10^3 back.
+SCALE = 10**16
+
+
+@dataclass(frozen=True)
+class Refused:
+    """A refusal: its number and, for 4 and 8, the place of the first faulty sample."""
+
+    number: int
+    place: int = 0
+
+
+def load_tables():
+    """The nine columns of tables.txt, each a list over 360 to 830 nm."""
+    lines = Path(__file__).with_name("tables.txt").read_text(encoding="utf-8").splitlines()
+    rows = [[int(cell) for cell in line.split()] for line in lines if not line.startswith("#")]
+    wavelengths, *columns = (list(column) for column in zip(*rows, strict=True))
+    if wavelengths != list(WAVELENGTHS):
+        raise ValueError("tables.txt doesn't run from 360 to 830")
+    return columns
+
+
+X, Y, Z, X10, Y10, Z10, V_PRIME, A, D65 = load_tables()
+V, V10 = Y, Y10
+
+# Each observer's efficacy and functions.
+OBSERVERS = {2: (683, (X, Y, Z)), 10: (684, (X10, Y10, Z10))}
+ILLUMINANTS = {1: A, 2: D65}
+
+
+# What is refused. Each of these answers a refusal or None.
+
+
+def refuse_grid(start, step, count):
+    if step not in STEPS:
+        return Refused(STEP)
+    if start < 300 or start > 380:
+        return Refused(START)
+    if count == 0 or not 780 <= start + step * (count - 1) <= 830:
+        return Refused(COUNT)
+    return None
+
+
+def refuse_samples(samples, largest, number):
+    for place, sample in enumerate(samples):
+        if sample > largest:
+            return Refused(number, place)
+    return None
+
+
+def refuse_light(start, step, samples):
+    return refuse_grid(start, step, len(samples)) or refuse_samples(
+        samples, LARGEST_SAMPLE, SAMPLE
+    )
+
+
+def refuse_panel(observer, illuminant, start, step, reflectances):
+    if observer not in OBSERVERS:
+        return Refused(OBSERVER)
+    if illuminant not in ILLUMINANTS:
+        return Refused(ILLUMINANT)
+    return refuse_grid(start, step, len(reflectances)) or refuse_samples(
+        reflectances, LARGEST_REFLECTANCE, REFLECTANCE
+    )
+
+
+def refuse_overrange(*readings):
+    if max(readings) > LARGEST_READING:
+        return Refused(OVERRANGE)
+    return None
+
+
+# The paper's sums and its rounding.
+
+
+def nearest(numerator, denominator):
+    """The nearest whole number, halves up."""
+    return (2 * numerator + denominator) // (2 * denominator)
+
+
+def t_at(w, start, step, samples):
+    """T at w nanometres: the step times the spectrum."""
+    if w < start or w > start + step * (len(samples) - 1):
+        return 0
+    i, d = divmod(w - start, step)
+    if d == 0:
+        return step * samples[i]
+    return (step - d) * samples[i] + d * samples[i + 1]
+
+
+def t_row(start, step, samples):
+    """T at each whole nanometre from 360 to 830."""
+    return [t_at(w, start, step, samples) for w in WAVELENGTHS]
+
+
+def weigh(weights, row):
+    """W: the sum over 360 to 830 of weight times row."""
+    return sum(map(mul, weights, row))
+
+
+def light_sums(observer, start, step, samples):
+    """W of the observer's three functions."""
+    row = t_row(start, step, samples)
+    return [weigh(weights, row) for weights in OBSERVERS[observer][1]]
+
+
+def panel_sums(observer, illuminant, start, step, reflectances):
+    """The panel's exact X, Y and Z sums."""
+    lit = list(map(mul, ILLUMINANTS[illuminant], t_row(start, step, reflectances)))
+    return [weigh(weights, lit) for weights in OBSERVERS[observer][1]]
+
+
+def coordinates(sums):
+    """x and y in hundred-thousandths from three exact sums, or refused 9."""
+    total = sum(sums)
+    if total == 0:
+        return Refused(DARK)
+    return nearest(100_000 * sums[0], total), nearest(100_000 * sums[1], total)
+
+
+def charted(answer):
+    """The chart answer for an answer of x and y: "dark" takes the place of refusal 9."""
+    if answer == Refused(DARK):
+        return "dark"
+    if isinstance(answer, Refused):
+        return answer
+    x, y = answer
+    return float(x) / 100000.0, float(y) / 100000.0
+
+
+# The readings of a light.
+
+
+def illuminance(efficacy, weights, start, step, samples):
+    if refused := refuse_light(start, step, samples):
+        return refused
+    row = t_row(start, step, samples)
+    reading = nearest(efficacy * weigh(weights, row), step * SCALE)
+    return refuse_overrange(reading) or reading
+
+
+def photopic(start, step, samples):
+    """Photopic illuminance in millilux."""
+    return illuminance(683, V, start, step, samples)
+
+
+def scotopic(start, step, samples):
+    """Scotopic illuminance in millilux."""
+    return illuminance(1700, V_PRIME, start, step, samples)
+
+
+def photopic_10(start, step, samples):
+    """10° photopic illuminance in millilux."""
+    return illuminance(684, V10, start, step, samples)
+
+
+def mesopic(k, start, step, samples):
+    """Mesopic illuminance in millilux at k thousandths."""
+    if k > LARGEST_K:
+        return Refused(MESOPIC)
+    if refused := refuse_light(start, step, samples):
+        return refused
+    row = t_row(start, step, samples)
+    mixed = k * weigh(V, row) + (1000 - k) * weigh(V_PRIME, row)
+    reading = nearest(683_000 * mixed, step * SCALE * (1000 * k + 402 * (1000 - k)))
+    return refuse_overrange(reading) or reading
+
+
+def xyz(observer, start, step, samples):
+    """X, Y, Z in millilux."""
+    if observer not in OBSERVERS:
+        return Refused(OBSERVER)
+    if refused := refuse_light(start, step, samples):
+        return refused
+    efficacy = OBSERVERS[observer][0]
+    sums = light_sums(observer, start, step, samples)
+    readings = tuple(nearest(efficacy * each, step * SCALE) for each in sums)
+    return refuse_overrange(*readings) or readings
+
+
+def xy(observer, start, step, samples):
+    """x and y in hundred-thousandths."""
+    if observer not in OBSERVERS:
+        return Refused(OBSERVER)
+    if refused := refuse_light(start, step, samples):
+        return refused
+    return coordinates(light_sums(observer, start, step, samples))
+
+
+def chart(observer, start, step, samples):
+    """x and y as two floats, or "dark"."""
+    return charted(xy(observer, start, step, samples))
+
+
+def figures(start, step, samples):
+    """Photopic, scotopic, X, Y, Z and, last, (x, y) or "dark", all for observer 2."""
+    readings = photopic(start, step, samples), scotopic(start, step, samples)
+    tristimulus = xyz(2, start, step, samples)
+    for answer in (*readings, tristimulus):
+        if isinstance(answer, Refused):
+            return answer
+    colour = xy(2, start, step, samples)
+    return *readings, *tristimulus, "dark" if colour == Refused(DARK) else colour
+
+
+# The readings of a panel.
+
+
+def panel_xyz(observer, illuminant, start, step, reflectances):
+    """X, Y, Z of a panel in thousandths."""
+    if refused := refuse_panel(observer, illuminant, start, step, reflectances):
+        return refused
+    _, (_, y_weights, _) = OBSERVERS[observer]
+    # The white runs over 360 to 830 whatever the panel's own range.
+    white = weigh(y_weights, ILLUMINANTS[illuminant])
+    sums = panel_sums(observer, illuminant, start, step, reflectances)
+    readings = tuple(nearest(10 * each, step * white) for each in sums)
+    return refuse_overrange(*readings) or readings
+
+
+def panel_xy(observer, illuminant, start, step, reflectances):
+    """x and y of a panel in hundred-thousandths."""
+    if refused := refuse_panel(observer, illuminant, start, step, reflectances):
+        return refused
+    return coordinates(panel_sums(observer, illuminant, start, step, reflectances))
+
+
+def panel_chart(observer, illuminant, start, step, reflectances):
+    """x and y of a panel as two floats, or "dark"."""
+    return charted(panel_xy(observer, illuminant, start, step, reflectances))
+
+
+# The packed record.
+
+
+def record_length(count):
+    """3 + 5n/2 bytes, rounded up."""
+    return 3 + (5 * count + 1) // 2
+
+
+def read_record(record, room):
+    """(start, step, samples) of a record; `room` is how many samples the caller's row holds."""
+    if len(record) < 3:
+        return Refused(LENGTH)
+    header = int.from_bytes(record[:3], "big")
+    edition = header >> 20
+    step = STEPS[header >> 18 & 0b11]
+    start = 300 + (header >> 11 & 0b111_1111)
+    count = header >> 1 & 0b11_1111_1111
+    if edition != 1:
+        return Refused(EDITION)
+    if header & 1:
+        return Refused(RESERVED)
+    if refused := refuse_grid(start, step, count):
+        return refused
+    if len(record) != record_length(count):
+        return Refused(LENGTH)
+    body = int.from_bytes(record[3:], "big")
+    if count % 2:
+        body, padding = divmod(body, 2**4)
+        if padding:
+            return Refused(PADDING)
+    samples = [body >> 20 * place & 0xFFFFF for place in reversed(range(count))]
+    if refused := refuse_samples(samples, LARGEST_SAMPLE, SAMPLE):
+        return refused
+    if room < count:
+        return Refused(ROOM)
+    return start, step, samples
+
+
+def write_record(start, step, samples, room):
+    """The record's bytes; `room` is how many bytes the caller's buffer holds."""
+    if refused := refuse_light(start, step, samples):
+        return refused
+    count = len(samples)
+    if room < record_length(count):
+        return Refused(ROOM)
+    bits = 1  # the edition
+    bits = bits << 2 | STEPS.index(step)
+    bits = bits << 7 | start - 300
+    bits = bits << 10 | count
+    bits = bits << 1  # the reserved bit
+    for sample in samples:
+        bits = bits << 20 | sample
+    if count % 2:
+        bits = bits << 4  # the padding
+    return bits.to_bytes(record_length(count), "big")
+
+
+# The report program.
+
+
+def report(given):
+    """The report's whole output for the bytes on standard input."""
+    answer = read_record(given[:LONGEST_INPUT], LARGEST_COUNT)
+    if not isinstance(answer, Refused):
+        answer = figures(*answer)
+    if isinstance(answer, Refused):
+        place = f" at {answer.place}" if answer.number == SAMPLE else ""
+        return f"refused {answer.number}{place}\n".encode()
+    *readings, colour = answer
+    names = ("photopic", "scotopic", "X", "Y", "Z")
+    lines = [f"{name} {reading}\n" for name, reading in zip(names, readings, strict=True)]
+    for i, name in enumerate("xy"):
+        lines.append(f"{name} {'-' if colour == 'dark' else decimal(colour[i])}\n")
+    return "".join(lines).encode()
+
+
+def decimal(hundred_thousandths):
+    """A coordinate with five decimals."""
+    return f"{hundred_thousandths // 100_000}.{hundred_thousandths % 100_000:05}"

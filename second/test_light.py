@@ -1,0 +1,466 @@
+"""Tests of the second implementation: the paper's bench figures, its refusals and their order.
+
+    python3 -m unittest discover -s second
+"""
+
+import random
+import unittest
+
+import light
+from light import Refused
+
+FULL = 1_000_000
+TOO_LARGE = 1_000_001
+
+
+def lone(value, wavelength, start=380, step=1, last=780):
+    """A row that is 0 but for one sample."""
+    samples = [0] * ((last - start) // step + 1)
+    samples[(wavelength - start) // step] = value
+    return samples
+
+
+def panel(value, start=360, last=830):
+    """A panel of one reflectance throughout, in steps of 1."""
+    return [value] * (last - start + 1)
+
+
+def light_readings():
+    """Every reading of a light as a function of start, step and samples."""
+    return {
+        "photopic": light.photopic,
+        "scotopic": light.scotopic,
+        "10° photopic": light.photopic_10,
+        "figures": light.figures,
+        **{f"mesopic {k}": lambda *given, k=k: light.mesopic(k, *given) for k in (0, 500, 1000)},
+        **{f"X, Y, Z {o}": lambda *given, o=o: light.xyz(o, *given) for o in (2, 10)},
+        **{f"x, y {o}": lambda *given, o=o: light.xy(o, *given) for o in (2, 10)},
+        **{f"chart {o}": lambda *given, o=o: light.chart(o, *given) for o in (2, 10)},
+    }
+
+
+class Tables(unittest.TestCase):
+    def entry(self, table, wavelength):
+        return table[wavelength - 360]
+
+    def test_sums_are_the_printed_ones(self):
+        printed = {
+            106_865469489595: light.X,
+            106_856917101172: light.Y,
+            106_892251278636: light.Z,
+            116_648519508908: light.X10,
+            116_661877102312: light.Y10,
+            116_673980514647: light.Z10,
+        }
+        for total, table in printed.items():
+            self.assertEqual(light.nearest(sum(table), 10), total)
+
+    def test_entries_that_are_easily_misread(self):
+        self.assertEqual(self.entry(light.Y, 476), 117532 * 10**7)
+        self.assertEqual(self.entry(light.Z, 649), 13333330)
+        self.assertEqual(self.entry(light.Z, 650), 0)
+        self.assertEqual(self.entry(light.Z10, 559), 47 * 10**7)
+        self.assertEqual(self.entry(light.Z10, 560), 0)
+        self.assertEqual(self.entry(light.V, 555), 10**13)
+        self.assertEqual(self.entry(light.V_PRIME, 555), 402 * 10**10)
+        self.assertEqual(self.entry(light.A, 598), 127_58000)
+
+    def test_scotopic_weight_is_0_outside_380_to_780(self):
+        self.assertEqual(self.entry(light.V_PRIME, 380), 5890000000)
+        self.assertEqual(self.entry(light.V_PRIME, 780), 1390000)
+        self.assertFalse(any(light.V_PRIME[: 380 - 360]))
+        self.assertFalse(any(light.V_PRIME[781 - 360 :]))
+
+    def test_illuminants_where_the_text_is_damaged(self):
+        self.assertEqual(self.entry(light.A, 799), 249_91800)
+        self.assertEqual(self.entry(light.A, 800), 250_32900)
+        self.assertEqual(self.entry(light.A, 830), 261_60200)
+        self.assertEqual(self.entry(light.D65, 760), 46_41820)
+        self.assertEqual(self.entry(light.D65, 761), 48_45690)
+        self.assertEqual(self.entry(light.D65, 830), 60_31250)
+
+
+class Bench(unittest.TestCase):
+    """P1 to P10: start 380, step 1, n = 401 and observer 2 unless said."""
+
+    def test_p1_all_zero(self):
+        given = 380, 1, [0] * 401
+        self.assertEqual(light.photopic(*given), 0)
+        self.assertEqual(light.scotopic(*given), 0)
+        self.assertEqual(light.photopic_10(*given), 0)
+        self.assertEqual(light.mesopic(500, *given), 0)
+        self.assertEqual(light.xyz(2, *given), (0, 0, 0))
+        self.assertEqual(light.xy(2, *given), Refused(9))
+        self.assertEqual(light.chart(2, *given), "dark")
+        self.assertEqual(light.figures(*given), (0, 0, 0, 0, 0, "dark"))
+
+    def test_p2_full_at_460(self):
+        given = 380, 1, lone(FULL, 460)
+        self.assertEqual(light.photopic(*given), 40980)
+        self.assertEqual(light.scotopic(*given), 963900)
+        self.assertEqual(light.xyz(2, *given), (198616, 40980, 1140064))
+        self.assertEqual(light.xy(2, *given), (14396, 2970))
+        self.assertEqual(light.chart(2, *given), (14396 / 100000.0, 2970 / 100000.0))
+        expected = (40980, 963900, 198616, 40980, 1140064, (14396, 2970))
+        self.assertEqual(light.figures(*given), expected)
+
+    def test_p3_half_at_460(self):
+        self.assertEqual(light.photopic(380, 1, lone(25_000, 460)), 1025)
+        self.assertEqual(light.photopic(380, 1, lone(24_999, 460)), 1024)
+
+    def test_p4_mesopic(self):
+        given = 380, 1, lone(FULL, 460)
+        self.assertEqual(light.mesopic(0, *given), 963336)
+        self.assertEqual(light.mesopic(500, *given), 305450)
+        self.assertEqual(light.mesopic(1000, *given), 40980)
+        self.assertEqual(light.mesopic(1001, *given), Refused(5))
+
+    def test_p5_the_line_reaches_456_and_464(self):
+        samples = lone(FULL, 460, step=5)
+        self.assertEqual(len(samples), 81)
+        self.assertEqual(light.photopic(380, 5, samples), 205365)
+
+    def test_p6_full_at_485(self):
+        given = 380, 1, lone(FULL, 485)
+        self.assertEqual(light.photopic(*given), 115632)
+        self.assertEqual(light.scotopic(*given), 1446700)
+        self.assertEqual(light.xy(2, *given), (6871, 20072))
+
+    def test_p7_p2_and_p6_mixed(self):
+        samples = lone(FULL, 460)
+        samples[485 - 380] = FULL
+        self.assertEqual(light.photopic(380, 1, samples), 156612)
+        self.assertEqual(light.xy(2, 380, 1, samples), (12179, 8008))
+
+    def test_p8_half_mixed_with_itself(self):
+        self.assertEqual(light.photopic(380, 1, lone(50_000, 460)), 2049)
+
+    def test_p9_white_panel(self):
+        for illuminant in (1, 2):
+            self.assertEqual(light.panel_xyz(2, illuminant, 360, 1, panel(10_000))[1], 100_000)
+
+    def test_p10_refused(self):
+        zeros = [0] * 401
+        self.assertEqual(light.photopic(380, 3, zeros), Refused(1))
+        self.assertEqual(light.photopic(299, 1, [0] * 482), Refused(2))
+        self.assertEqual(light.photopic(381, 1, [0] * 400), Refused(2))
+        self.assertEqual(light.photopic(380, 1, zeros[:400]), Refused(3))
+        zeros[7] = TOO_LARGE
+        self.assertEqual(light.photopic(380, 1, zeros), Refused(4, 7))
+
+
+class Readings(unittest.TestCase):
+    def test_colour_is_not_worked_from_rounded_readings(self):
+        given = 2, 380, 1, lone(1, 460)
+        self.assertEqual(light.xyz(*given), (0, 0, 1))
+        self.assertEqual(light.xy(*given)[0], 14396)
+
+    def test_exact_halves_go_up(self):
+        self.assertEqual(light.scotopic(380, 1, lone(5_000, 460)), 4820)
+        self.assertEqual(light.scotopic(380, 1, lone(4_999, 460)), 4819)
+        self.assertEqual(light.photopic_10(380, 1, lone(125, 557)), 86)
+        self.assertEqual(light.photopic_10(380, 1, lone(124, 557)), 85)
+        self.assertEqual(light.xyz(2, 380, 1, lone(625_000, 505))[0], 1025)
+        self.assertEqual(light.xyz(2, 380, 1, lone(624_999, 505))[0], 1024)
+        self.assertEqual(light.mesopic(1000, 380, 1, lone(25_000, 460)), 1025)
+
+    def test_x_and_y_may_come_to_100001(self):
+        samples = lone(3, 685)
+        samples[690 - 380] = 94
+        # x is exactly 73437.5 and y 26562.5, since z has no weight here.
+        self.assertEqual(light.xy(2, 380, 1, samples), (73438, 26563))
+
+    def test_lit_only_below_360_is_dark_in_steps_of_1(self):
+        samples = [FULL] * 60 + [0] * 421
+        self.assertEqual(light.figures(300, 1, samples), (0, 0, 0, 0, 0, "dark"))
+        self.assertEqual(light.xy(10, 300, 1, samples), Refused(9))
+
+    def test_sample_below_360_pulls_on_the_line_that_crosses_360(self):
+        # Samples stand at 359 and 361, so T is FULL at 360 and 0 beyond.
+        samples = lone(FULL, 359, start=301, step=2, last=781)
+        half = light.xyz(2, 360, 1, lone(FULL // 2, 360, start=360))
+        self.assertEqual(light.xyz(2, 301, 2, samples), half)
+        self.assertNotEqual(light.xy(2, 301, 2, samples), Refused(9))
+
+    def test_nothing_beyond_the_measured_range(self):
+        row = light.t_row(380, 10, [7] * 41)
+        self.assertEqual(row[: 380 - 360], [0] * 20)
+        self.assertEqual(row[380 - 360 : 781 - 360], [70] * 401)
+        self.assertEqual(row[781 - 360 :], [0] * 50)
+
+    def test_a_finer_grid_on_the_same_line_reads_the_same(self):
+        draw = random.Random(1)
+        for start, step, last in ((300, 2, 830), (303, 5, 828), (357, 10, 787), (380, 10, 830)):
+            count = (last - start) // step + 1
+            samples = [step * draw.randrange(FULL // step + 1) for _ in range(count)]
+            fine = []
+            for low, high in zip(samples, samples[1:]):
+                fine += [low + d * (high - low) // step for d in range(step)]
+            fine.append(samples[-1])
+            for name, reading in light_readings().items():
+                with self.subTest(name, step=step):
+                    self.assertEqual(reading(start, step, samples), reading(start, 1, fine))
+
+    def test_mesopic_at_1000_is_photopic(self):
+        draw = random.Random(2)
+        for _ in range(20):
+            given = 300, 10, [draw.randrange(FULL + 1) for _ in range(54)]
+            self.assertEqual(light.mesopic(1000, *given), light.photopic(*given))
+
+    def test_y_is_the_photopic_reading(self):
+        draw = random.Random(3)
+        for _ in range(20):
+            given = 380, 5, [draw.randrange(FULL + 1) for _ in range(81)]
+            self.assertEqual(light.xyz(2, *given)[1], light.photopic(*given))
+            self.assertEqual(light.xyz(10, *given)[1], light.photopic_10(*given))
+
+    def test_no_reading_is_near_refusal_15(self):
+        given = 360, 1, [FULL] * 471
+        largest = [
+            light.photopic(*given),
+            light.scotopic(*given),
+            light.photopic_10(*given),
+            light.mesopic(0, *given),
+            *light.xyz(2, *given),
+            *light.xyz(10, *given),
+        ]
+        self.assertLess(max(largest), 200_000_000)
+        self.assertIsNone(light.refuse_overrange(0, 4_294_967_295))
+        self.assertEqual(light.refuse_overrange(0, 4_294_967_296), Refused(15))
+
+
+class Panels(unittest.TestCase):
+    def test_full_white(self):
+        white = 360, 1, panel(10_000)
+        self.assertEqual(light.panel_xyz(2, 1, *white), (109850, 100000, 35585))
+        self.assertEqual(light.panel_xyz(2, 2, *white), (95047, 100000, 108883))
+        self.assertEqual(light.panel_xyz(10, 1, *white)[1], 100000)
+        self.assertEqual(light.panel_xyz(10, 2, *white)[1], 100000)
+
+    def test_white_in_other_steps(self):
+        for step in (2, 5, 10):
+            white = 360, step, [10_000] * (470 // step + 1)
+            self.assertEqual(light.panel_xyz(2, 2, *white), (95047, 100000, 108883))
+
+    def test_the_white_sum_runs_over_360_to_830_whatever_the_panel(self):
+        # A white sum over 380 to 780 alone would give 109849.
+        narrow = light.panel_xyz(2, 1, 380, 1, panel(10_000, 380, 780))
+        self.assertEqual(narrow[0], 109848)
+
+    def test_grey_has_the_colour_of_white(self):
+        for observer in (2, 10):
+            for illuminant in (1, 2):
+                white = light.panel_xy(observer, illuminant, 360, 1, panel(10_000))
+                self.assertEqual(light.panel_xy(observer, illuminant, 360, 1, panel(1)), white)
+        self.assertEqual(light.panel_xy(2, 2, 360, 1, panel(1)), (31273, 32902))
+
+    def test_chart(self):
+        expected = (31273 / 100000.0, 32902 / 100000.0)
+        self.assertEqual(light.panel_chart(2, 2, 360, 1, panel(10_000)), expected)
+
+    def test_black(self):
+        black = 360, 1, panel(0)
+        self.assertEqual(light.panel_xyz(2, 1, *black), (0, 0, 0))
+        self.assertEqual(light.panel_xy(2, 1, *black), Refused(9))
+        self.assertEqual(light.panel_chart(2, 1, *black), "dark")
+
+
+class Refusals(unittest.TestCase):
+    """Each refusal alone, then each with all those that come after it."""
+
+    def test_light_alone(self):
+        faulty = lone(TOO_LARGE, 400)
+        faulty[-1] = 4_294_967_295
+        for name, reading in light_readings().items():
+            with self.subTest(name):
+                for step in (0, 3, 4, 11, 4_294_967_295):
+                    self.assertEqual(reading(380, step, [1] * 401), Refused(1))
+                for start, count in ((299, 482), (381, 400), (0, 781), (4_294_967_295, 1)):
+                    self.assertEqual(reading(start, 1, [1] * count), Refused(2))
+                for start, step, count in ((380, 1, 0), (380, 1, 400), (380, 1, 452), (380, 5, 80)):
+                    self.assertEqual(reading(start, step, [1] * count), Refused(3))
+                self.assertEqual(reading(300, 1, [1] * 532), Refused(3))
+                self.assertEqual(reading(380, 1, faulty), Refused(4, 20))
+
+    def test_light_in_order(self):
+        for name, reading in light_readings().items():
+            with self.subTest(name):
+                faulty = [TOO_LARGE] * 400
+                self.assertEqual(reading(299, 3, faulty), Refused(1))
+                self.assertEqual(reading(381, 1, [TOO_LARGE]), Refused(2))
+                self.assertEqual(reading(380, 1, faulty), Refused(3))
+                self.assertEqual(reading(380, 1, [TOO_LARGE] * 401), Refused(4, 0))
+
+    def test_edges_are_not_refused(self):
+        for start, step, last in ((300, 1, 830), (300, 10, 780), (380, 10, 780), (380, 1, 830)):
+            count = (last - start) // step + 1
+            for name, reading in light_readings().items():
+                with self.subTest(name, start=start, step=step, last=last):
+                    self.assertNotIsInstance(reading(start, step, [FULL] * count), Refused)
+
+    def test_own_settings_come_first(self):
+        bad = 299, 3, [TOO_LARGE]
+        for k in (1001, 4_294_967_295):
+            self.assertEqual(light.mesopic(k, *bad), Refused(5))
+        for observer in (0, 1, 3, 4_294_967_295):
+            for reading in (light.xyz, light.xy, light.chart):
+                self.assertEqual(reading(observer, *bad), Refused(6))
+                self.assertEqual(reading(observer, 380, 1, [0] * 401), Refused(6))
+
+    def test_a_faulty_sample_comes_before_dark(self):
+        # At 300 nm it carries no weight, so the rest is dark.
+        samples = lone(TOO_LARGE, 300, start=300)
+        self.assertEqual(light.xy(2, 300, 1, samples), Refused(4, 0))
+        self.assertEqual(light.chart(2, 300, 1, samples), Refused(4, 0))
+
+    def test_panel_in_order(self):
+        faulty = panel(1)
+        faulty[5] = 10_001
+        faulty[6] = 65_535
+        short = faulty[:419]  # the last wavelength is 778
+        cases = [
+            ((3, 0, 299, 3, short), Refused(6)),
+            ((3, 1, 360, 1, panel(1)), Refused(6)),
+            ((2, 0, 299, 3, short), Refused(7)),
+            ((10, 3, 360, 1, panel(1)), Refused(7)),
+            ((2, 1, 299, 3, short), Refused(1)),
+            ((2, 1, 360, 3, panel(1)), Refused(1)),
+            ((2, 1, 299, 1, short), Refused(2)),
+            ((2, 1, 381, 1, panel(1, 381)), Refused(2)),
+            ((2, 1, 360, 1, short), Refused(3)),
+            ((2, 1, 360, 1, []), Refused(3)),
+            ((2, 1, 360, 1, faulty), Refused(8, 5)),
+            ((10, 2, 300, 1, [10_001] + [0] * 480), Refused(8, 0)),
+        ]
+        for given, refused in cases:
+            for reading in (light.panel_xyz, light.panel_xy, light.panel_chart):
+                with self.subTest(reading.__name__, refused=refused):
+                    self.assertEqual(reading(*given), refused)
+
+
+def packed(samples, edition=1, code=0, start=380, count=401, reserved=0, padding=0, behind=b""):
+    """A record by its fields, written as a string of bits."""
+    bits = f"{edition:04b}{code:02b}{start - 300:07b}{count:010b}{reserved:b}"
+    bits += "".join(f"{sample:020b}" for sample in samples)
+    if len(samples) % 2:
+        bits += f"{padding:04b}"
+    return int(bits, 2).to_bytes(len(bits) // 8, "big") + behind
+
+
+class Records(unittest.TestCase):
+    def test_the_paper_s_record(self):
+        record = light.write_record(380, 1, lone(FULL, 460), 1_006)
+        self.assertEqual(len(record), 1_006)
+        self.assertEqual(record[:3].hex(" "), "12 83 22")
+        self.assertEqual(record, packed(lone(FULL, 460)))
+
+    def test_round_trips(self):
+        draw = random.Random(4)
+        for code, step in enumerate((1, 2, 5, 10)):
+            for start in range(300, 381):
+                for last in (779 + step - (779 - start) % step, 830 - (830 - start) % step):
+                    count = (last - start) // step + 1
+                    samples = [draw.randrange(FULL + 1) for _ in range(count)]
+                    record = light.write_record(start, step, samples, 1_331)
+                    self.assertEqual(record, packed(samples, 1, code, start, count))
+                    self.assertEqual(light.read_record(record, count), (start, step, samples))
+
+    def test_shortest_and_longest(self):
+        shortest = light.write_record(380, 10, [FULL] * 41, 106)
+        self.assertEqual(len(shortest), 106)
+        self.assertEqual(light.read_record(shortest, 41), (380, 10, [FULL] * 41))
+        longest = light.write_record(300, 1, [FULL] * 531, 1_331)
+        self.assertEqual(len(longest), 1_331)
+        self.assertEqual(light.read_record(longest, 531), (300, 1, [FULL] * 531))
+
+    def test_reading_refused_alone(self):
+        zeros = [0] * 401
+        faulty = lone(TOO_LARGE, 460)
+        faulty[-1] = 2**20 - 1
+        cases = {
+            12: [b"", b"\x12", b"\x12\x83", packed(zeros)[:-1], packed(zeros, behind=b"\0")],
+            10: [packed(zeros, edition=edition) for edition in (0, 2, 15)],
+            11: [packed(zeros, reserved=1)],
+            2: [packed([0] * 400, start=381, count=400), packed([0] * 401, start=427)],
+            3: [packed([0] * 400, count=400), packed([0] * 452, count=452), packed([], count=0)],
+            13: [packed(zeros, padding=padding) for padding in (1, 2, 4, 8)],
+        }
+        for number, records in cases.items():
+            for record in records:
+                with self.subTest(number=number, length=len(record)):
+                    self.assertEqual(light.read_record(record, 531), Refused(number))
+        self.assertEqual(light.read_record(packed(faulty), 531), Refused(4, 80))
+        self.assertEqual(light.read_record(packed(zeros), 400), Refused(14))
+        self.assertEqual(light.read_record(packed(zeros), 0), Refused(14))
+
+    def test_reading_in_order(self):
+        faulty = lone(TOO_LARGE, 387)
+        faults = [
+            (10, {"edition": 2}),
+            (11, {"reserved": 1}),
+            (2, {"start": 381}),
+            (3, {"count": 399}),
+            (12, {"behind": b"\xff" * 400}),
+            (13, {"padding": 15}),
+        ]
+        for i, (number, _) in enumerate(faults):
+            fields = {name: value for _, fault in faults[i:] for name, value in fault.items()}
+            with self.subTest(number=number):
+                self.assertEqual(light.read_record(packed(faulty, **fields), 0), Refused(number))
+        self.assertEqual(light.read_record(packed(faulty), 0), Refused(4, 7))
+
+    def test_reading_where_the_length_is_wrong_too(self):
+        self.assertEqual(light.read_record(b"\x22\x83", 531), Refused(12))
+        self.assertEqual(light.read_record(packed([], count=0, behind=b"\0"), 531), Refused(3))
+        self.assertEqual(light.read_record(packed([], count=401), 531), Refused(12))
+        overlong = packed([0] * 401, edition=2, behind=b"\0" * 1_000)
+        self.assertEqual(light.read_record(overlong, 531), Refused(10))
+
+    def test_writing_refused_alone(self):
+        zeros = [0] * 401
+        self.assertEqual(light.write_record(380, 3, zeros, 1_331), Refused(1))
+        self.assertEqual(light.write_record(381, 1, [0] * 400, 1_331), Refused(2))
+        self.assertEqual(light.write_record(380, 1, [0] * 400, 1_331), Refused(3))
+        self.assertEqual(light.write_record(380, 1, lone(TOO_LARGE, 460), 1_331), Refused(4, 80))
+        self.assertEqual(light.write_record(380, 1, zeros, 1_005), Refused(14))
+
+    def test_writing_in_order(self):
+        faulty = [TOO_LARGE] * 400
+        self.assertEqual(light.write_record(299, 3, faulty, 0), Refused(1))
+        self.assertEqual(light.write_record(381, 1, [TOO_LARGE], 0), Refused(2))
+        self.assertEqual(light.write_record(380, 1, faulty, 0), Refused(3))
+        self.assertEqual(light.write_record(380, 1, [TOO_LARGE] * 401, 0), Refused(4, 0))
+
+
+class Report(unittest.TestCase):
+    def test_the_paper_s_report(self):
+        expected = (
+            b"photopic 40980\n"
+            b"scotopic 963900\n"
+            b"X 198616\n"
+            b"Y 40980\n"
+            b"Z 1140064\n"
+            b"x 0.14396\n"
+            b"y 0.02970\n"
+        )
+        self.assertEqual(light.report(packed(lone(FULL, 460))), expected)
+
+    def test_dark(self):
+        expected = b"photopic 0\nscotopic 0\nX 0\nY 0\nZ 0\nx -\ny -\n"
+        self.assertEqual(light.report(packed([0] * 401)), expected)
+
+    def test_refused(self):
+        self.assertEqual(light.report(b""), b"refused 12\n")
+        self.assertEqual(light.report(packed(lone(TOO_LARGE, 460))), b"refused 4 at 80\n")
+        self.assertEqual(light.report(packed(lone(TOO_LARGE, 380))), b"refused 4 at 0\n")
+        self.assertEqual(light.report(packed([0] * 401, padding=1)), b"refused 13\n")
+
+    def test_input_past_1332_bytes_is_a_wrong_length(self):
+        longest = packed([0] * 531, start=300, count=531)
+        self.assertEqual(light.report(longest)[:10], b"photopic 0")
+        for extra in (1, 2, 10_000):
+            self.assertEqual(light.report(longest + b"\0" * extra), b"refused 12\n")
+
+
+if __name__ == "__main__":
+    unittest.main()
