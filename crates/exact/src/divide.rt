@@ -5,7 +5,7 @@ use crate::digits::half;
 use crate::digits::times_plus;
 ghost use mathlib.Core.Path.{_≡_};
 ghost use Prim.Native.Nat.{_+_, _*_, _/_, _^_, _<_, _≤_, min};
-ghost use lib.Dec.{leb};
+ghost use lib.Dec.{leb, eqb};
 ghost use Rattle.mixing.specs.Nearest.{nearest as nearestOf};
 ghost use Rattle.exact.specs.Value.{short, long};
 
@@ -47,6 +47,18 @@ pub fn quotient(n: Long, d: Short) -> u64
         );
     }
     q
+}
+
+// Whether d is 0.
+pub fn is_zero(d: Short) -> bool
+    ensures { λ r. ⌜ r ≡ eqb (short d) 0 ⌝ }
+{
+    if d.high == 0 {
+        if d.middle == 0 {
+            return d.low == 0;
+        }
+    }
+    false
 }
 
 // A part of the quotient, at least 1.

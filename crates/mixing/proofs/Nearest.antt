@@ -1,8 +1,8 @@
 -- Laws of the nearest whole number: it is compared by products, and needs no doubling.
 use mathlib.Core.Path.{_≡_, _∙_, sym, ap}
 use mathlib.Core.Logic.{_↔_}
-use Prim.Native.Nat.{ℕ, _+_, _*_, _/_, _≤_, _<_}
-use native.Mathlib.Nat.{le-div-iff-mul-le, div-lt-iff-lt-mul, div-div-eq-div-mul, div-eq-of-eq-mul-left, mul-add-div}
+use Prim.Native.Nat.{ℕ, zero, suc, _+_, _*_, _/_, _≤_, _<_, zero-le}
+use native.Mathlib.Nat.{le-div-iff-mul-le, div-lt-iff-lt-mul, div-div-eq-div-mul, div-eq-of-eq-mul-left, mul-add-div, div-zero}
 use native.Mathlib.Omega.{arith}
 use Rattle.mixing.specs.Nearest.{nearest}
 
@@ -30,3 +30,16 @@ unfolding nearest
 halves-up n d pos =
     let double : 0 < 2 * (2 * d) = omega arith in
     div-eq-of-eq-mul-left double (omega arith)
+
+-- n / 0 counts as 0
+pub nearest-zero : (n : ℕ) → nearest n 0 ≡ 0
+unfolding nearest
+nearest-zero n = div-zero (2 * n + 0)
+
+-- the nearest of at most c times d, over d, is at most c
+pub nearest-bound : (c n d : ℕ) → n ≤ c * d → nearest n d ≤ c
+nearest-bound c n zero h = rw nearest-zero zero-le
+nearest-bound c n (suc d) h =
+    let pos : 0 < suc d = omega arith in
+    let less : nearest n (suc d) < c + 1 = nearest-lt n (suc d) pos (c + 1) .1 (omega arith) in
+    omega arith

@@ -1,0 +1,2 @@
+-- Laws of answers that are worked from sums.
+pub mod Fitting

@@ -1,0 +1,17 @@
+-- The constant's bits are those of 100000 made a float.
+use mathlib.Core.Path.{refl}
+use lib.Ieee.{ofInt, ofBits, div}
+use Rattle.answers.specs.Worked.{coordinateFloat}
+use borrow.Author.Needs.{needs}
+use Rattle.answers.proofs.work.coordinate_float.Statement.{statement}
+use Rattle.answers.proofs.work.coordinate_float.Tie as tie
+
+int-to-float-result : tie.Need-int-to-float-result
+int-to-float-result c = search needs
+
+returns : tie.Need-returns
+unfolding coordinateFloat ofInt ofBits
+returns c = refl
+
+pub coordinate-float-spec : {M : Type 1} → statement M
+coordinate-float-spec = tie.close (tie.spec int-to-float-result returns)
