@@ -7,7 +7,7 @@ use crate::XyAnswer;
 use crate::Xyz;
 use crate::XyzAnswer;
 use exact::digits::Short;
-use exact::digits::plus;
+use exact::digits::short_times_plus;
 use exact::divide::is_zero;
 use exact::divide::nearest;
 use grid::Refusal;
@@ -74,7 +74,7 @@ pub fn xy_from(sums: Sums) -> XyAnswer
     let sum_x = sums.x;
     let sum_y = sums.y;
     let sum_z = sums.z;
-    let total = plus(plus(sum_x, sum_y), sum_z);
+    let total = short_times_plus(short_times_plus(sum_x, 1, sum_y), 1, sum_z);
     if is_zero(total) {
         return XyAnswer::Refused(Refusal {
             number: 9,

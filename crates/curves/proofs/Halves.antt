@@ -2,7 +2,7 @@
 use lib.Dec.{lit≤}
 use Rattle.mixing.specs.Sum.{total}
 use Rattle.curves.specs.Curves.{Halves}
-use Rattle.curves.specs.Tables.{xBar, yBar, zBar, xBar10, yBar10, zBar10, vPrime}
+use Rattle.curves.specs.Tables.{xBar, yBar, zBar, xBar10, yBar10, zBar10, vPrime, illuminantA, illuminantD65}
 
 pub xBar-halves : Halves xBar
 unfolding xBar total
@@ -31,3 +31,11 @@ zBar10-halves = record { high = lit≤ tt; low = lit≤ tt }
 pub vPrime-halves : Halves vPrime
 unfolding vPrime total
 vPrime-halves = record { high = lit≤ tt; low = lit≤ tt }
+
+pub illuminantA-halves : Halves illuminantA
+unfolding illuminantA total
+illuminantA-halves = record { high = lit≤ tt; low = lit≤ tt }
+
+pub illuminantD65-halves : Halves illuminantD65
+unfolding illuminantD65 total
+illuminantD65-halves = record { high = lit≤ tt; low = lit≤ tt }

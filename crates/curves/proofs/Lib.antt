@@ -2,3 +2,4 @@
 pub mod Rows
 pub mod Halves
 pub mod Largest
+pub mod Sums

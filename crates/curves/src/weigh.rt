@@ -1,4 +1,7 @@
 // Weighted sums over the whole nanometres 360 to 830. Each table is lent whole to the one loop, since it is built anew where it is named.
+use crate::Curve;
+use crate::tables::ILLUMINANT_A;
+use crate::tables::ILLUMINANT_D65;
 use crate::tables::V_PRIME;
 use crate::tables::X_BAR;
 use crate::tables::X_BAR_10;
@@ -12,63 +15,88 @@ ghost use mathlib.Core.Path.{_≡_};
 ghost use lib.ListN.{getD};
 ghost use Rattle.exact.specs.Value.{short};
 ghost use Rattle.mixing.specs.Sum.{weighted};
-ghost use Rattle.curves.specs.Curves.{entryOf, Row, Halves};
-ghost use Rattle.curves.specs.Tables.{xBar, yBar, zBar, xBar10, yBar10, zBar10, vPrime};
+ghost use Rattle.curves.specs.Curves.{entryOf, weightOf, Row, Halves};
+ghost use Rattle.curves.specs.Tables.{xBar, yBar, zBar, xBar10, yBar10, zBar10, vPrime, illuminantA, illuminantD65};
 
-// By x̄.
-pub fn by_x_bar(row: &[u64; 471]) -> Short
+// The weighted sum of a row by any of the curves.
+pub fn weigh(curve: Curve, row: &[u64; 471]) -> Short
+    requires { ⌜ Row (now row) ⌝ }
+    ensures { λ r. ⌜ short r ≡ weighted 471 (weightOf curve) (entryOf (now (row .entry))) ⌝ }
+{
+    match curve {
+        Curve::XBar => by_x_bar(row),
+        Curve::YBar => by_y_bar(row),
+        Curve::ZBar => by_z_bar(row),
+        Curve::XBar10 => by_x_bar_10(row),
+        Curve::YBar10 => by_y_bar_10(row),
+        Curve::ZBar10 => by_z_bar_10(row),
+        Curve::VPrime => by_v_prime(row),
+        Curve::IlluminantA => by_illuminant_a(row),
+        Curve::IlluminantD65 => by_illuminant_d65(row),
+    }
+}
+
+fn by_x_bar(row: &[u64; 471]) -> Short
     requires { ⌜ Row (now row) ⌝ }
     ensures { λ r. ⌜ short r ≡ weighted 471 (entryOf xBar) (entryOf (now (row .entry))) ⌝ }
 {
     sum(&X_BAR, row)
 }
 
-// By ȳ, which is V.
-pub fn by_y_bar(row: &[u64; 471]) -> Short
+fn by_y_bar(row: &[u64; 471]) -> Short
     requires { ⌜ Row (now row) ⌝ }
     ensures { λ r. ⌜ short r ≡ weighted 471 (entryOf yBar) (entryOf (now (row .entry))) ⌝ }
 {
     sum(&Y_BAR, row)
 }
 
-// By z̄.
-pub fn by_z_bar(row: &[u64; 471]) -> Short
+fn by_z_bar(row: &[u64; 471]) -> Short
     requires { ⌜ Row (now row) ⌝ }
     ensures { λ r. ⌜ short r ≡ weighted 471 (entryOf zBar) (entryOf (now (row .entry))) ⌝ }
 {
     sum(&Z_BAR, row)
 }
 
-// By x̄10.
-pub fn by_x_bar_10(row: &[u64; 471]) -> Short
+fn by_x_bar_10(row: &[u64; 471]) -> Short
     requires { ⌜ Row (now row) ⌝ }
     ensures { λ r. ⌜ short r ≡ weighted 471 (entryOf xBar10) (entryOf (now (row .entry))) ⌝ }
 {
     sum(&X_BAR_10, row)
 }
 
-// By ȳ10, which is V10.
-pub fn by_y_bar_10(row: &[u64; 471]) -> Short
+fn by_y_bar_10(row: &[u64; 471]) -> Short
     requires { ⌜ Row (now row) ⌝ }
     ensures { λ r. ⌜ short r ≡ weighted 471 (entryOf yBar10) (entryOf (now (row .entry))) ⌝ }
 {
     sum(&Y_BAR_10, row)
 }
 
-// By z̄10.
-pub fn by_z_bar_10(row: &[u64; 471]) -> Short
+fn by_z_bar_10(row: &[u64; 471]) -> Short
     requires { ⌜ Row (now row) ⌝ }
     ensures { λ r. ⌜ short r ≡ weighted 471 (entryOf zBar10) (entryOf (now (row .entry))) ⌝ }
 {
     sum(&Z_BAR_10, row)
 }
 
-// By V′.
-pub fn by_v_prime(row: &[u64; 471]) -> Short
+fn by_v_prime(row: &[u64; 471]) -> Short
     requires { ⌜ Row (now row) ⌝ }
     ensures { λ r. ⌜ short r ≡ weighted 471 (entryOf vPrime) (entryOf (now (row .entry))) ⌝ }
 {
     sum(&V_PRIME, row)
+}
+
+fn by_illuminant_a(row: &[u64; 471]) -> Short
+    requires { ⌜ Row (now row) ⌝ }
+    ensures { λ r. ⌜ short r ≡ weighted 471 (entryOf illuminantA) (entryOf (now (row .entry))) ⌝ }
+{
+    sum(&ILLUMINANT_A, row)
+}
+
+fn by_illuminant_d65(row: &[u64; 471]) -> Short
+    requires { ⌜ Row (now row) ⌝ }
+    ensures { λ r. ⌜ short r ≡ weighted 471 (entryOf illuminantD65) (entryOf (now (row .entry))) ⌝ }
+{
+    sum(&ILLUMINANT_D65, row)
 }
 
 // The sum of weight times row. The weights are split at 2^32, and neither half's sum passes 64 bits.

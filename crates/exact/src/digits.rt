@@ -61,11 +61,11 @@ pub fn narrow(a: Long) -> Short
     }
 }
 
-// a + b; what passes 96 bits is dropped.
-pub fn plus(a: Short, b: Short) -> Short
-    ensures { λ r. ⌜ short r ≡ (short a + short b) % 2 ^ 96 ⌝ }
+// a · f + b; what passes 96 bits is dropped.
+pub fn short_times_plus(a: Short, f: u32, b: Short) -> Short
+    ensures { λ r. ⌜ short r ≡ (short a * f + short b) % 2 ^ 96 ⌝ }
 {
-    narrow(times_plus(a, 1, b))
+    narrow(times_plus(a, f, b))
 }
 
 // Half of a, rounded down.

@@ -1,3 +1,4 @@
 -- Laws of spectra.
 pub mod Measured
 pub mod Lay
+pub mod Light

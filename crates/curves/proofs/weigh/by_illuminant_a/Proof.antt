@@ -1,0 +1,16 @@
+-- The table that is lent is the definition's.
+use Rattle.curves.specs.Tables.{illuminantA}
+use Rattle.curves.proofs.Halves.{illuminantA-halves}
+use Rattle.curves.proofs.weigh.by_illuminant_a.Statement.{statement}
+use Rattle.curves.proofs.weigh.by_illuminant_a.Tie as tie
+
+sum-requires : tie.Need-sum-requires
+unfolding illuminantA
+sum-requires c κs = (illuminantA-halves, c .before .pre)
+
+returns : tie.Need-returns
+unfolding illuminantA
+returns c = c .sum .ensures
+
+pub by-illuminant-a-spec : {M : Type 1} → statement M
+by-illuminant-a-spec = tie.close (tie.spec sum-requires returns)

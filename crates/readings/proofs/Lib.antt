@@ -1,0 +1,4 @@
+-- Laws of readings.
+pub mod Small
+pub mod LightSums
+pub mod Together

@@ -1,0 +1,15 @@
+-- The sums of a light's row are the light's.
+use mathlib.Core.Path.{_∙_}
+use mathlib.Core.List.{List}
+use Prim.Native.Nat.{ℕ}
+use Rattle.spectrum.specs.Line.{rowOf}
+use Rattle.spectrum.proofs.Light.{row-weighed}
+use Rattle.answers.specs.declared.work.Sums.{Sums}
+use Rattle.readings.specs.Colour.{RowSums, LightSums}
+
+pub light-sums : (o a s : ℕ) (xs : List ℕ) (sums : Sums) → RowSums o (rowOf a s xs) sums → LightSums o a s xs sums
+light-sums o a s xs sums r = record {
+  x = r .x ∙ rw row-weighed;
+  y = r .y ∙ rw row-weighed;
+  z = r .z ∙ rw row-weighed;
+}

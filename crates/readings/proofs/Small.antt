@@ -1,0 +1,47 @@
+-- The sums of an accepted light are small enough for every reading's arithmetic.
+use mathlib.Core.Path.{_≡_, _∙_}
+use mathlib.Core.List.{List}
+use Prim.Native.Nat.{ℕ, _+_, _*_, _%_, _^_, _≤_, _<_}
+use native.Mathlib.Nat.{mod-eq-of-lt, mul-le-mul}
+use native.Mathlib.Omega.{arith}
+use Rattle.grid.specs.declared.Check.the-variants.{Fine}
+use Rattle.grid.specs.Check.{refusal}
+use Rattle.grid.proofs.Limit.{passed}
+use Rattle.curves.specs.declared.Curve.{Curve}
+use Rattle.curves.specs.declared.Curve.the-variants.{XBar, YBar, ZBar, XBar10, YBar10, ZBar10}
+use Rattle.curves.proofs.Sums.{light-sum}
+use Rattle.spectrum.specs.Light.{lightCheck}
+use Rattle.spectrum.specs.Line.{rowOf}
+use Rattle.spectrum.proofs.Light.{row-small, row-weighed}
+use Rattle.readings.specs.Readings.{weighed, isObserver, colourCheck, ofObserver, xSum, ySum, zSum}
+
+-- a colour that is accepted is one of an accepted light
+pub colour-fine : (o a s : ℕ) (xs : List ℕ) → colourCheck o a s xs ≡ Fine → lightCheck a s xs ≡ Fine
+colour-fine o a s xs fine = passed (isObserver o) (lightCheck a s xs) (refusal 6 0) fine .1
+
+module _ (a s : ℕ) (xs : List ℕ) (fine : lightCheck a s xs ≡ Fine) where
+  pub sum-small : (c : Curve) → weighed c a s xs ≤ 20000000000000000000000
+  sum-small c = rw row-weighed at (light-sum c (rowOf a s xs) (row-small a s xs fine))
+
+  pub colour-small : (o : ℕ) → xSum o a s xs + ySum o a s xs + zSum o a s xs < 2 ^ 96
+  colour-small o =
+      let x = sum-small (ofObserver o XBar XBar10) in
+      let y = sum-small (ofObserver o YBar YBar10) in
+      let z = sum-small (ofObserver o ZBar ZBar10) in
+      omega arith
+
+-- the mesopic sum and divisor, as they are worked, pass no 96 bits
+pub mesopic-sum-kept :
+    (v n k j : ℕ) → v ≤ 20000000000000000000000 → n ≤ 20000000000000000000000 → k ≤ 1000 → j ≤ 1000 →
+    (v * k + (n * j + 0) % 2 ^ 96) % 2 ^ 96 ≡ k * v + j * n
+mesopic-sum-kept v n k j hv hn hk hj =
+    let x : v * k ≤ 20000000000000000000000 * 1000 = mul-le-mul hv hk in
+    let y : n * j ≤ 20000000000000000000000 * 1000 = mul-le-mul hn hj in
+    let inner : (n * j + 0) % 2 ^ 96 ≡ n * j + 0 = mod-eq-of-lt (omega arith) in
+    rw inner (mod-eq-of-lt (omega arith) ∙ omega arith)
+
+pub mesopic-divisor-kept :
+    (d f : ℕ) → d ≤ 100000000000000000 → f ≤ 1000000 → (d * f + 0) % 2 ^ 96 ≡ d * f
+mesopic-divisor-kept d f hd hf =
+    let x : d * f ≤ 100000000000000000 * 1000000 = mul-le-mul hd hf in
+    mod-eq-of-lt (omega arith) ∙ omega arith

@@ -1,0 +1,68 @@
+-- The report's figures from X, Y, Z and the scotopic reading alone: photopic is Y.
+use mathlib.Core.Path.{_≡_, refl, ap}
+use mathlib.Core.Bool.{Bool, true, false, cond, _&&_}
+use Prim.Native.Nat.{ℕ}
+use native.Mathlib.Omega.{arith}
+use Rattle.grid.specs.declared.Refusal.{Refusal}
+use Rattle.grid.specs.Check.{refusal}
+use Rattle.mixing.specs.Nearest.{nearest}
+use Rattle.answers.specs.declared.Xyz.{Xyz}
+use Rattle.answers.specs.declared.Reading.{Reading}
+use Rattle.answers.specs.declared.XyzAnswer.{XyzAnswer}
+use Rattle.answers.specs.declared.XyAnswer.{XyAnswer}
+use Rattle.answers.specs.Worked.{isFitting, readingFrom, xyzFrom}
+use Rattle.readings.specs.declared.report.FiguresAnswer.{FiguresAnswer}
+use Rattle.readings.specs.Readings.{together}
+
+given : (a b c : Bool) (w v : Xyz) (r : Refusal) → cond (a && b && c) (XyzAnswer.Value w) (XyzAnswer.Refused r) ≡ XyzAnswer.Value v → (b ≡ true) × (w ≡ v)
+given true true true w v r e = (refl, cc)
+given true true false w v r e = absurd (let z : _≡_ {A = ℕ} 0 1 = cc in omega arith)
+given true false c w v r e = absurd (let z : _≡_ {A = ℕ} 0 1 = cc in omega arith)
+given false b c w v r e = absurd (let z : _≡_ {A = ℕ} 0 1 = cc in omega arith)
+
+refused : (b : Bool) (w : Xyz) (q r : Refusal) → cond b (XyzAnswer.Value w) (XyzAnswer.Refused q) ≡ XyzAnswer.Refused r → q ≡ r
+refused true w q r e = absurd (let z : _≡_ {A = ℕ} 0 1 = cc in omega arith)
+refused false w q r e = cc
+
+module _ (x y z n d : ℕ) (xy : XyAnswer) where
+  -- where X, Y, Z are given, photopic is Y
+  photopic-given : (v : Xyz) → xyzFrom x y z d ≡ XyzAnswer.Value v → readingFrom y d ≡ Reading.Value (v .y)
+  unfolding xyzFrom readingFrom
+  photopic-given v e =
+      let w : Xyz = record { x = nearest x d; y = nearest y d; z = nearest z d } in
+      let g = given (isFitting (nearest x d)) (isFitting (nearest y d)) (isFitting (nearest z d)) w v (refusal 15 0) e in
+      rw (g .0) (ap (λ u. Reading.Value (u .y)) (g .1))
+
+  pub all-given :
+      (v : Xyz) (q : ℕ) → xyzFrom x y z d ≡ XyzAnswer.Value v → readingFrom n d ≡ Reading.Value q →
+      together (readingFrom y d) (readingFrom n d) (xyzFrom x y z d) xy
+      ≡ FiguresAnswer.Value (record { photopic = v .y; scotopic = q; xyz = v; xy = xy })
+  all-given v q e f = rw (photopic-given v e, f, e)
+
+  pub scotopic-refused :
+      (v : Xyz) (r : Refusal) → xyzFrom x y z d ≡ XyzAnswer.Value v → readingFrom n d ≡ Reading.Refused r →
+      together (readingFrom y d) (readingFrom n d) (xyzFrom x y z d) xy ≡ FiguresAnswer.Refused r
+  scotopic-refused v r e f = rw (photopic-given v e, f)
+
+  -- X, Y, Z that are refused are OVERRANGE
+  overrange : (r : Refusal) → xyzFrom x y z d ≡ XyzAnswer.Refused r → refusal 15 0 ≡ r
+  unfolding xyzFrom
+  overrange r e =
+      refused (isFitting (nearest x d) && isFitting (nearest y d) && isFitting (nearest z d))
+      (record { x = nearest x d; y = nearest y d; z = nearest z d }) (refusal 15 0) r e
+
+  pub xyz-refused :
+      (r : Refusal) → xyzFrom x y z d ≡ XyzAnswer.Refused r →
+      together (readingFrom y d) (readingFrom n d) (xyzFrom x y z d) xy ≡ FiguresAnswer.Refused r
+  unfolding readingFrom
+  xyz-refused r e =
+      rw e (go (isFitting (nearest y d)) (isFitting (nearest n d)) (overrange r e))
+    where
+      go :
+          (a b : Bool) → refusal 15 0 ≡ r →
+          together (cond a (Reading.Value (nearest y d)) (Reading.Refused (refusal 15 0)))
+          (cond b (Reading.Value (nearest n d)) (Reading.Refused (refusal 15 0))) (XyzAnswer.Refused r) xy
+          ≡ FiguresAnswer.Refused r
+      go true true h = refl
+      go true false h = ap FiguresAnswer.Refused h
+      go false b h = ap FiguresAnswer.Refused h

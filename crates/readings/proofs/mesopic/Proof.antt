@@ -1,0 +1,50 @@
+-- The setting is checked first, and then the light.
+use mathlib.Core.Path.{_≡_, _∙_, sym}
+use borrow.Author.Tests.{le-leb, lt-leb}
+use Rattle.grid.specs.declared.Check.the-variants.{Fine}
+use Rattle.spectrum.specs.Light.{lightCheck}
+use Rattle.readings.specs.Readings.{mesopicOf}
+use borrow.Author.Needs.{needs}
+use Rattle.readings.proofs.mesopic.Statement.{statement}
+use Rattle.readings.proofs.mesopic.Tie as tie
+
+fine : (c : tie.After-enum-told) → lightCheck (c .before .before .before .before .before .args .start) (c .before .before .before .before .before .args .step) (c .before .before .before .before .before .args .samples .now) ≡ Fine
+fine c = sym (c .before .before .check-light .ensures) ∙ c .enum-told .given .1
+
+returns : tie.Need-returns
+unfolding mesopicOf
+returns c = rw (lt-leb (c .before .before .args .k) 1000 (c .if1 .taken))
+
+check-light-requires : tie.Need-check-light-requires
+check-light-requires c κs = search needs
+
+enum-told : tie.Need-enum-told
+enum-told c = search needs
+
+mesopic-of-light-requires : tie.Need-mesopic-of-light-requires
+mesopic-of-light-requires c κs = (c .before .before .before .if1 .left, fine c)
+
+enum-known-check : tie.Need-enum-known-check
+enum-known-check c = search needs
+
+returns-2 : tie.Need-returns-2
+unfolding mesopicOf
+returns-2 c = rw (le-leb (c .before .before .before .before .before .before .args .k) 1000 (c .before .before .before .before .if1 .left), fine (c .before)) (c .mesopic-of-light .ensures)
+
+returns-3 : tie.Need-returns-3
+unfolding mesopicOf
+returns-3 c =
+    rw
+    (le-leb (c .before .before .before .before .before .before .args .k) 1000 (c .before .before .before .before .if1 .left), sym (c .before .before .before .check-light .ensures) ∙ c .before .check .given .1)
+
+pub mesopic-spec : {M : Type 1} → statement M
+mesopic-spec =
+    tie.close
+    (tie.spec
+    returns
+    check-light-requires
+    enum-told
+    mesopic-of-light-requires
+    enum-known-check
+    returns-2
+    returns-3)

@@ -1,0 +1,3 @@
+-- Definitions of the crate `readings`.
+pub mod Readings
+pub mod Colour

@@ -1,0 +1,102 @@
+-- Every reading of a light, as the paper's table has it.
+use mathlib.Core.Bool.{Bool, cond, _||_}
+use mathlib.Core.List.{List}
+use Prim.Native.Nat.{ℕ, _+_, _*_, _-_, _^_}
+use lib.Dec.{leb, eqb}
+use Rattle.grid.specs.declared.Check.{Check}
+use Rattle.grid.specs.Check.{unless, require}
+use Rattle.curves.specs.declared.Curve.{Curve}
+use Rattle.curves.specs.declared.Curve.the-variants.{XBar, YBar, ZBar, XBar10, YBar10, ZBar10, VPrime}
+use Rattle.curves.specs.Curves.{weightOf}
+use Rattle.spectrum.specs.Light.{lightCheck}
+use Rattle.spectrum.specs.Line.{W}
+use Rattle.answers.specs.declared.Reading.{Reading}
+use Rattle.answers.specs.declared.XyzAnswer.{XyzAnswer}
+use Rattle.answers.specs.declared.XyAnswer.{XyAnswer}
+use Rattle.answers.specs.declared.ChartAnswer.{ChartAnswer}
+use Rattle.answers.specs.Worked.{readingFrom, xyzFrom, xyFrom, onChart}
+use Rattle.readings.specs.declared.report.ReportFigures.{ReportFigures}
+use Rattle.readings.specs.declared.report.FiguresAnswer.{FiguresAnswer}
+
+-- W of a curve
+abbrev pub weighed : Curve → ℕ → ℕ → List ℕ → ℕ
+weighed c a s xs = W (weightOf c) a s xs
+
+-- an illuminance in millilux: efficacy · W / (s · 10^16)
+unfoldable pub illuminanceOf : Curve → ℕ → ℕ → ℕ → List ℕ → Reading
+illuminanceOf c efficacy a s xs =
+    unless (lightCheck a s xs) Reading.Refused (readingFrom (efficacy * weighed c a s xs) (s * 10 ^ 16))
+
+abbrev pub photopicOf : ℕ → ℕ → List ℕ → Reading
+photopicOf a s xs = illuminanceOf YBar 683 a s xs
+
+abbrev pub scotopicOf : ℕ → ℕ → List ℕ → Reading
+scotopicOf a s xs = illuminanceOf VPrime 1700 a s xs
+
+abbrev pub photopic10Of : ℕ → ℕ → List ℕ → Reading
+photopic10Of a s xs = illuminanceOf YBar10 684 a s xs
+
+-- MESOPIC: k above 1000
+abbrev pub mesopicCheck : ℕ → ℕ → ℕ → List ℕ → Check
+mesopicCheck k a s xs = require (leb k 1000) 5 (lightCheck a s xs)
+
+-- 683000 (k · W(V) + (1000 - k) · W(V′))
+abbrev pub mesopicSum : ℕ → ℕ → ℕ → List ℕ → ℕ
+mesopicSum k a s xs = 683000 * (k * weighed YBar a s xs + (1000 - k) * weighed VPrime a s xs)
+
+-- over s · 10^16 · (1000 k + 402 (1000 - k))
+abbrev pub mesopicDivisor : ℕ → ℕ → ℕ
+mesopicDivisor k s = s * 10 ^ 16 * (1000 * k + 402 * (1000 - k))
+
+unfoldable pub mesopicOf : ℕ → ℕ → ℕ → List ℕ → Reading
+mesopicOf k a s xs =
+    unless (mesopicCheck k a s xs) Reading.Refused (readingFrom (mesopicSum k a s xs) (mesopicDivisor k s))
+
+abbrev pub isObserver : ℕ → Bool
+isObserver o = eqb o 2 || eqb o 10
+
+-- OBSERVER: neither 2 nor 10
+abbrev pub colourCheck : ℕ → ℕ → ℕ → List ℕ → Check
+colourCheck o a s xs = require (isObserver o) 6 (lightCheck a s xs)
+
+-- what observer 10 has in place of what observer 2 has
+abbrev pub ofObserver : {A : Type 0} → ℕ → A → A → A
+ofObserver o two ten = cond (eqb o 10) ten two
+
+abbrev pub xSum : ℕ → ℕ → ℕ → List ℕ → ℕ
+xSum o a s xs = weighed (ofObserver o XBar XBar10) a s xs
+
+abbrev pub ySum : ℕ → ℕ → ℕ → List ℕ → ℕ
+ySum o a s xs = weighed (ofObserver o YBar YBar10) a s xs
+
+abbrev pub zSum : ℕ → ℕ → ℕ → List ℕ → ℕ
+zSum o a s xs = weighed (ofObserver o ZBar ZBar10) a s xs
+
+-- X, Y, Z in millilux: 683 W / (s · 10^16), and 684 for observer 10
+unfoldable pub xyzOf : ℕ → ℕ → ℕ → List ℕ → XyzAnswer
+xyzOf o a s xs =
+    unless (colourCheck o a s xs) XyzAnswer.Refused
+    (xyzFrom (ofObserver o 683 684 * xSum o a s xs) (ofObserver o 683 684 * ySum o a s xs) (ofObserver o 683 684 * zSum o a s xs)
+    (s * 10 ^ 16))
+
+-- x and y, from the exact sums
+unfoldable pub xyOf : ℕ → ℕ → ℕ → List ℕ → XyAnswer
+xyOf o a s xs = unless (colourCheck o a s xs) XyAnswer.Refused (xyFrom (xSum o a s xs) (ySum o a s xs) (zSum o a s xs))
+
+-- dark where x and y would be refused 9; the other refusals hold as for x and y
+unfoldable pub chartOf : ℕ → ℕ → ℕ → List ℕ → ChartAnswer
+chartOf o a s xs =
+    unless (colourCheck o a s xs) ChartAnswer.Refused
+    (ChartAnswer.Given (onChart (xyFrom (xSum o a s xs) (ySum o a s xs) (zSum o a s xs))))
+
+-- four answers as one: the first refusal among photopic, scotopic and X, Y, Z, or all figures
+abbrev pub together : Reading → Reading → XyzAnswer → XyAnswer → FiguresAnswer
+together (Reading.Refused r) scotopic xyz xy = FiguresAnswer.Refused r
+together (Reading.Value p) (Reading.Refused r) xyz xy = FiguresAnswer.Refused r
+together (Reading.Value p) (Reading.Value q) (XyzAnswer.Refused r) xy = FiguresAnswer.Refused r
+together (Reading.Value p) (Reading.Value q) (XyzAnswer.Value v) xy =
+    FiguresAnswer.Value (record { photopic = p; scotopic = q; xyz = v; xy = xy })
+
+-- the figures of the report, at observer 2
+abbrev pub figuresOf : ℕ → ℕ → List ℕ → FiguresAnswer
+figuresOf a s xs = together (photopicOf a s xs) (scotopicOf a s xs) (xyzOf 2 a s xs) (xyOf 2 a s xs)

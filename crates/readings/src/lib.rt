@@ -1,0 +1,93 @@
+// Every reading of a light. The illuminances are here.
+pub mod colour;
+pub mod report;
+
+use answers::Reading;
+use answers::work::reading_from;
+use curves::Curve;
+use curves::weigh::weigh;
+use exact::digits::Short;
+use exact::digits::joined;
+use exact::digits::short_times_plus;
+use grid::Check;
+use grid::Refusal;
+use spectrum::check_light;
+use spectrum::line::row_of;
+ghost use mathlib.Core.Path.{_≡_};
+ghost use Prim.Native.Nat.{_+_, _*_, _-_, _^_, _≤_};
+ghost use Rattle.exact.specs.Value.{short};
+ghost use Rattle.grid.specs.declared.Check.the-variants.{Fine};
+ghost use Rattle.spectrum.specs.Light.{lightCheck};
+ghost use Rattle.answers.specs.Worked.{readingFrom};
+ghost use Rattle.readings.specs.Readings.{illuminanceOf, photopicOf, scotopicOf, photopic10Of, mesopicOf, mesopicSum, mesopicDivisor};
+
+// Photopic illuminance in millilux.
+pub fn photopic(start: u32, step: u32, samples: &[u32]) -> Reading
+    ensures { λ r. ⌜ r ≡ photopicOf start step (now (samples .entry)) ⌝ }
+{
+    illuminance(Curve::YBar, 683, start, step, samples)
+}
+
+// Scotopic illuminance in millilux.
+pub fn scotopic(start: u32, step: u32, samples: &[u32]) -> Reading
+    ensures { λ r. ⌜ r ≡ scotopicOf start step (now (samples .entry)) ⌝ }
+{
+    illuminance(Curve::VPrime, 1700, start, step, samples)
+}
+
+// 10° photopic illuminance in millilux.
+pub fn photopic_10(start: u32, step: u32, samples: &[u32]) -> Reading
+    ensures { λ r. ⌜ r ≡ photopic10Of start step (now (samples .entry)) ⌝ }
+{
+    illuminance(Curve::YBar10, 684, start, step, samples)
+}
+
+fn illuminance(curve: Curve, efficacy: u32, start: u32, step: u32, samples: &[u32]) -> Reading
+    ensures { λ r. ⌜ r ≡ illuminanceOf curve efficacy start step (now (samples .entry)) ⌝ }
+{
+    let check = check_light(start, step, samples);
+    match check {
+        Check::Fine => {
+            let row = row_of(start, step, samples);
+            reading_from(weigh(curve, &row), efficacy, scale(step))
+        }
+        Check::Refused(refusal) => Reading::Refused(refusal),
+    }
+}
+
+// s · 10^16.
+fn scale(step: u32) -> Short
+    requires { ⌜ step ≤ 10 ⌝ }
+    ensures { λ r. ⌜ short r ≡ step * 10 ^ 16 ⌝ }
+{
+    joined(0, step as u64 * 10000000000000000)
+}
+
+// The illuminance between day and night vision, at k thousandths, in millilux.
+pub fn mesopic(k: u32, start: u32, step: u32, samples: &[u32]) -> Reading
+    ensures { λ r. ⌜ r ≡ mesopicOf k start step (now (samples .entry)) ⌝ }
+{
+    if 1000 < k {
+        return Reading::Refused(Refusal {
+            number: 5,
+            place: 0,
+        });
+    }
+    let check = check_light(start, step, samples);
+    match check {
+        Check::Fine => mesopic_of_light(k, start, step, samples),
+        Check::Refused(refusal) => Reading::Refused(refusal),
+    }
+}
+
+fn mesopic_of_light(k: u32, start: u32, step: u32, samples: &[u32]) -> Reading
+    requires { ⌜ (k ≤ 1000) × (lightCheck start step (now samples) ≡ Fine) ⌝ }
+    ensures { λ r. ⌜ r ≡ readingFrom (mesopicSum k start step (now (samples .entry))) (mesopicDivisor k step) ⌝ }
+{
+    let row = row_of(start, step, samples);
+    let none = joined(0, 0);
+    let night = short_times_plus(weigh(Curve::VPrime, &row), 1000 - k, none);
+    let sum = short_times_plus(weigh(Curve::YBar, &row), k, night);
+    let divisor = short_times_plus(scale(step), 1000 * k + 402 * (1000 - k), none);
+    reading_from(sum, 683000, divisor)
+}
