@@ -1,2 +1,3 @@
 -- Laws of answers that are worked from sums.
 pub mod Fitting
+pub mod Values

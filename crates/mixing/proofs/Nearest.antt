@@ -43,3 +43,7 @@ nearest-bound c n (suc d) h =
     let pos : 0 < suc d = omega arith in
     let less : nearest n (suc d) < c + 1 = nearest-lt n (suc d) pos (c + 1) .1 (omega arith) in
     omega arith
+
+-- nothing over anything is nothing
+pub nearest-none : (d : ℕ) → nearest 0 d ≡ 0
+nearest-none d = let h = nearest-bound 0 0 d zero-le in omega arith

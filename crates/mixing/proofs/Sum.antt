@@ -17,6 +17,11 @@ unfolding total
 total-le zero f g e = le-refl 0
 total-le (suc n) f g e = add-le-add (total-le n f g (λ k h. e k (omega arith))) (e n (le-refl (suc n)))
 
+pub total-none : (n : ℕ) (f : ℕ → ℕ) → ((k : ℕ) → f k ≡ 0) → total n f ≡ 0
+unfolding total
+total-none zero f e = refl
+total-none (suc n) f e = rw (total-none n f e, e n)
+
 pub total-add : (n : ℕ) (f g : ℕ → ℕ) → total n (λ k. f k + g k) ≡ total n f + total n g
 unfolding total
 total-add zero f g = refl

@@ -1,5 +1,6 @@
 // Every reading of a light. The illuminances are here.
 pub mod colour;
+pub mod promises;
 pub mod report;
 
 use answers::Reading;

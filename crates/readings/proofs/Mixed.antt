@@ -1,0 +1,122 @@
+-- Mixed light keeps to one unit, to the order and to the range of coordinates: the general laws at readings that are worked from linear sums.
+use mathlib.Core.Path.{_≡_, refl}
+use mathlib.Core.List.{List, [], _∷_}
+use Prim.Native.Nat.{ℕ, zero, suc, _+_, _*_, _≤_, _<_, zero-le}
+use native.Mathlib.Nat.{zero-add, add-zero}
+use native.Mathlib.Omega.{arith}
+use lib.ListN.{length, getD}
+use Rattle.mixing.specs.Nearest.{nearest}
+use Rattle.mixing.specs.Mixture.{mix, Below, Linear}
+use Rattle.mixing.specs.Promise.{Within, Between}
+use Rattle.mixing.proofs.Mixture.{linear-plus, linear-times}
+use Rattle.mixing.proofs.Illuminance.{illuminance}
+use Rattle.mixing.proofs.Coordinate.{between}
+use Rattle.answers.specs.Worked.{readingFrom, xyzFrom, xyFrom}
+use Rattle.answers.specs.Said.{Said, saidReading, saidXyz, saidXy}
+use Rattle.answers.proofs.Values.{reading-values, xyz-values, xy-lit, xy-dark, xy-given}
+use Rattle.readings.specs.Promises.{value}
+
+-- each of these sums is linear
+abbrev AllLinear : ℕ → List (List ℕ → ℕ) → Type 0
+AllLinear n [] = Unit {0}
+AllLinear n (F ∷ Fs) = Linear n F × AllLinear n Fs
+
+-- the nearest quotient of each
+abbrev quotients : List (List ℕ → ℕ) → ℕ → List ℕ → List ℕ
+quotients [] d xs = []
+quotients (F ∷ Fs) d xs = nearest (F xs) d ∷ quotients Fs d xs
+
+module _ (n d : ℕ) (pos : 0 < d) (xs ys : List ℕ) (p : length xs ≡ n) (q : length ys ≡ n) where
+  unit :
+      (Fs : List (List ℕ → ℕ)) → AllLinear n Fs → (i : ℕ) →
+      Within 1 (getD (quotients Fs d (mix xs ys)) i 0) (getD (quotients Fs d xs) i 0 + getD (quotients Fs d ys) i 0)
+  unit [] l i = record { above = omega arith; below = omega arith }
+  unit (F ∷ Fs) l zero = illuminance n d F (l .0) pos .two xs ys p q
+  unit (F ∷ Fs) l (suc i) = unit Fs (l .1) i
+
+  order :
+      (Fs : List (List ℕ → ℕ)) → AllLinear n Fs → Below xs ys → (i : ℕ) → getD (quotients Fs d xs) i 0 ≤ getD (quotients Fs d ys) i 0
+  order [] l b i = zero-le
+  order (F ∷ Fs) l b zero = illuminance n d F (l .0) pos .order xs ys p q b
+  order (F ∷ Fs) l b (suc i) = order Fs (l .1) b i
+
+  module _ (F : List ℕ → ℕ) (lin : Linear n F) where
+    abbrev reading : List ℕ → Said
+    reading zs = saidReading (readingFrom (F zs) d)
+
+    pub reading-unit :
+        reading xs .number ≡ 0 → reading ys .number ≡ 0 → reading (mix xs ys) .number ≡ 0 → (i : ℕ) →
+        Within 1 (value (reading (mix xs ys)) i) (value (reading xs) i + value (reading ys) i)
+    reading-unit e f g i =
+        rw (reading-values (F xs) d e, reading-values (F ys) d f, reading-values (F (mix xs ys)) d g) (unit (F ∷ []) (lin, tt) i)
+
+    pub reading-order :
+        Below xs ys → reading xs .number ≡ 0 → reading ys .number ≡ 0 → (i : ℕ) → value (reading xs) i ≤ value (reading ys) i
+    reading-order b e f i = rw (reading-values (F xs) d e, reading-values (F ys) d f) (order (F ∷ []) (lin, tt) b i)
+
+  module _ (F G H : List ℕ → ℕ) (f : Linear n F) (g : Linear n G) (h : Linear n H) where
+    abbrev xyz : List ℕ → Said
+    xyz zs = saidXyz (xyzFrom (F zs) (G zs) (H zs) d)
+
+    pub xyz-unit :
+        xyz xs .number ≡ 0 → xyz ys .number ≡ 0 → xyz (mix xs ys) .number ≡ 0 → (i : ℕ) →
+        Within 1 (value (xyz (mix xs ys)) i) (value (xyz xs) i + value (xyz ys) i)
+    xyz-unit j k l i =
+        rw (
+          xyz-values (F xs) (G xs) (H xs) d j,
+          xyz-values (F ys) (G ys) (H ys) d k,
+          xyz-values (F (mix xs ys)) (G (mix xs ys)) (H (mix xs ys)) d l,
+        )
+        (unit (F ∷ G ∷ H ∷ []) (f, (g, (h, tt))) i)
+
+    pub xyz-order : Below xs ys → xyz xs .number ≡ 0 → xyz ys .number ≡ 0 → (i : ℕ) → value (xyz xs) i ≤ value (xyz ys) i
+    xyz-order b j k i =
+        rw (xyz-values (F xs) (G xs) (H xs) d j, xyz-values (F ys) (G ys) (H ys) d k) (order (F ∷ G ∷ H ∷ []) (f, (g, (h, tt))) b i)
+
+module _
+    (n : ℕ) (F G H : List ℕ → ℕ) (f : Linear n F) (g : Linear n G) (h : Linear n H) (xs ys : List ℕ) (p : length xs ≡ n)
+    (q : length ys ≡ n)
+  where
+    abbrev xy : List ℕ → Said
+    xy zs = saidXy (xyFrom (F zs) (G zs) (H zs))
+
+    abbrev divisor : List ℕ → ℕ
+    divisor zs = F zs + G zs + H zs
+
+    divisor-linear : Linear n divisor
+    divisor-linear = linear-plus n (λ zs. F zs + G zs) H (linear-plus n F G f g) h
+
+    divisor-mixed : divisor (mix xs ys) ≡ divisor xs + divisor ys
+    divisor-mixed = divisor-linear .adds xs ys p q
+
+    pub xy-between :
+        xy xs .number ≡ 0 → xy ys .number ≡ 0 →
+        (xy (mix xs ys) .number ≡ 0) × ((i : ℕ) → Between (value (xy xs) i) (value (xy ys) i) (value (xy (mix xs ys)) i))
+    xy-between e e′ =
+        let a = xy-lit (F xs) (G xs) (H xs) e in
+        let b = xy-lit (F ys) (G ys) (H ys) e′ in
+        let c : 0 < divisor (mix xs ys) = (let m = divisor-mixed in omega arith) in
+        rw (xy-given (F xs) (G xs) (H xs) a, xy-given (F ys) (G ys) (H ys) b, xy-given (F (mix xs ys)) (G (mix xs ys)) (H (mix xs ys)) c)
+        (refl, go a b)
+      where
+        coordinate : (N : List ℕ → ℕ) → List ℕ → ℕ
+        coordinate N zs = nearest (100000 * N zs) (divisor zs)
+
+        go :
+            0 < divisor xs → 0 < divisor ys → (i : ℕ) →
+            Between (getD (coordinate F xs ∷ coordinate G xs ∷ []) i 0) (getD (coordinate F ys ∷ coordinate G ys ∷ []) i 0)
+            (getD (coordinate F (mix xs ys) ∷ coordinate G (mix xs ys) ∷ []) i 0)
+        go a b zero =
+            between n (λ zs. 100000 * F zs) divisor (linear-times n 100000 F f) divisor-linear (λ zs z. omega arith) .two xs ys p q a b
+        go a b (suc zero) =
+            between n (λ zs. 100000 * G zs) divisor (linear-times n 100000 G g) divisor-linear (λ zs z. omega arith) .two xs ys p q a b
+        go a b (suc (suc i)) = record { low = omega arith; high = omega arith }
+
+    -- a dark part adds nothing to any sum
+    pub xy-one-dark : xy xs .number ≡ 9 → (xy (mix xs ys) ≡ xy ys) × (xy (mix ys xs) ≡ xy ys)
+    xy-one-dark e =
+        let z = xy-dark (F xs) (G xs) (H xs) e in
+        let none : (F xs ≡ 0) × (G xs ≡ 0) × (H xs ≡ 0) = omega arith in (
+          rw (f .adds xs ys p q, g .adds xs ys p q, h .adds xs ys p q, none .0, none .1, none .2) (simp zero-add),
+          rw (f .adds ys xs q p, g .adds ys xs q p, h .adds ys xs q p, none .0, none .1, none .2) (simp add-zero),
+        )

@@ -1,0 +1,77 @@
+-- Where no light meets any weight, every sum is 0: the illuminances are 0, the coordinates dark.
+use mathlib.Core.Path.{_≡_, refl, sym, ap}
+use mathlib.Core.Bool.{Bool, true, false, cond}
+use mathlib.Core.List.{List}
+use Prim.Native.Nat.{ℕ, zero, suc, _+_, _*_, _-_, _/_, _%_, _^_, _≤_}
+use native.Mathlib.Nat.{mul-zero, add-zero}
+use borrow.Author.Tests.{le-leb}
+use lib.ListN.{getD, replicate, length}
+use lib.Dec.{leb}
+use Rattle.grid.specs.declared.Check.the-variants.{Fine}
+use Rattle.grid.specs.Check.{refusal}
+use Rattle.mixing.specs.Sum.{weighted}
+use Rattle.mixing.proofs.Sum.{total-none}
+use Rattle.mixing.proofs.Nearest.{nearest-none}
+use Rattle.curves.specs.declared.Curve.{Curve}
+use Rattle.curves.specs.declared.Curve.the-variants.{XBar, YBar, ZBar, XBar10, YBar10, ZBar10, VPrime}
+use Rattle.curves.specs.Curves.{weightOf}
+use Rattle.spectrum.specs.Light.{lightCheck}
+use Rattle.spectrum.specs.Line.{lineAt, isMeasured, endRule, T, W}
+use Rattle.answers.specs.declared.OnChart.{OnChart}
+use Rattle.answers.specs.declared.Reading.{Reading}
+use Rattle.answers.specs.declared.XyzAnswer.{XyzAnswer}
+use Rattle.answers.specs.declared.XyAnswer.{XyAnswer}
+use Rattle.answers.specs.declared.ChartAnswer.{ChartAnswer}
+use Rattle.answers.specs.Worked.{readingFrom, xyzFrom, xyFrom, onChart}
+use Rattle.readings.specs.Readings.{weighed, illuminanceOf, mesopicOf, isObserver, ofObserver, xyzOf, xyOf, chartOf}
+use Rattle.readings.specs.Promises.{Unlit}
+
+getD-zeros : (n i : ℕ) → _≡_ {A = ℕ} (getD (replicate n 0) i 0) 0
+getD-zeros zero i = refl
+getD-zeros (suc n) zero = refl
+getD-zeros (suc n) (suc i) = getD-zeros n i
+
+pub zeros : (a s n : ℕ) → Unlit a s (replicate n 0)
+unfolding T endRule lineAt
+zeros a s n c k = rw (dark (isMeasured a s (length {A = ℕ} (replicate n 0)) (360 + k)) (360 + k - a)) (mul-zero (weightOf c k))
+  where
+    dark :
+        (b : Bool) (e : ℕ) →
+        cond b ((s - e % s) * getD (replicate n 0) (e / s) 0 + e % s * getD (replicate n 0) (e / s + 1) 0) 0 ≡ 0
+    dark true e = rw (getD-zeros n (e / s), getD-zeros n (e / s + 1)) (simp (mul-zero, add-zero))
+    dark false e = refl
+
+module _ (a s : ℕ) (xs : List ℕ) (fine : lightCheck a s xs ≡ Fine) (unlit : Unlit a s xs) where
+  no-sum : (c : Curve) → weighed c a s xs ≡ 0
+  unfolding W weighted
+  no-sum c = total-none 471 (λ k. weightOf c k * T a s xs (360 + k)) (unlit c)
+
+  pub no-illuminance : (c : Curve) (efficacy : ℕ) → illuminanceOf c efficacy a s xs ≡ Reading.Value 0
+  unfolding illuminanceOf readingFrom
+  no-illuminance c efficacy = rw (fine, no-sum c, mul-zero efficacy, nearest-none)
+
+  pub no-mesopic : (k : ℕ) → k ≤ 1000 → mesopicOf k a s xs ≡ Reading.Value 0
+  unfolding mesopicOf readingFrom
+  no-mesopic k h = rw (le-leb k 1000 h, fine, no-sum YBar, no-sum VPrime, mul-zero k, mul-zero (1000 - k), nearest-none)
+
+  module _ (o : ℕ) (e : isObserver o ≡ true) where
+    pub no-xyz : xyzOf o a s xs ≡ XyzAnswer.Value (record { x = 0; y = 0; z = 0 })
+    unfolding xyzOf xyzFrom
+    no-xyz =
+        rw (
+          e,
+          fine,
+          no-sum (ofObserver o XBar XBar10),
+          no-sum (ofObserver o YBar YBar10),
+          no-sum (ofObserver o ZBar ZBar10),
+          mul-zero (ofObserver o 683 684),
+          nearest-none,
+        )
+
+    pub no-xy : xyOf o a s xs ≡ XyAnswer.Refused (refusal 9 0)
+    unfolding xyOf xyFrom
+    no-xy = rw (e, fine, no-sum (ofObserver o XBar XBar10), no-sum (ofObserver o YBar YBar10), no-sum (ofObserver o ZBar ZBar10))
+
+    pub no-point : chartOf o a s xs ≡ ChartAnswer.Given OnChart.Dark
+    unfolding chartOf xyFrom onChart
+    no-point = rw (e, fine, no-sum (ofObserver o XBar XBar10), no-sum (ofObserver o YBar YBar10), no-sum (ofObserver o ZBar ZBar10))

@@ -1,0 +1,21 @@
+-- Each promise is an instance of the laws.
+use Rattle.curves.specs.declared.Curve.the-variants.{YBar, VPrime, YBar10}
+use Rattle.readings.proofs.Instances.{accepted, illuminance-unit, mesopic-unit, xyz-mixed, between, one-dark}
+use Rattle.readings.proofs.promises.promise_mixing.Statement.{statement}
+use Rattle.readings.proofs.promises.promise_mixing.Tie as tie
+
+returns : tie.Need-returns
+returns c =
+    record {
+      accepted = accepted;
+      photopic = illuminance-unit YBar 683;
+      scotopic = illuminance-unit VPrime 1700;
+      photopic-10 = illuminance-unit YBar10 684;
+      mesopic = mesopic-unit;
+      xyz = xyz-mixed;
+      between = between;
+      one-dark = one-dark;
+    }
+
+pub promise-mixing-spec : {M : Type 1} → statement M
+promise-mixing-spec = tie.close (tie.spec returns)
