@@ -1,3 +1,4 @@
 -- Laws of the checks.
 pub mod Limit
 pub mod Accepted
+pub mod Place

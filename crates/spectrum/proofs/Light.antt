@@ -13,6 +13,7 @@ use Rattle.grid.specs.declared.Check.the-variants.{Fine, Refused}
 use Rattle.grid.specs.Check.{gridCheck, samplesCheck, unless, Within}
 use Rattle.grid.proofs.Limit.{fine-within}
 use Rattle.grid.proofs.Accepted.{OnGrid, accepted}
+use Rattle.grid.proofs.Place.{placeOf, grid-place, limit-place}
 use Rattle.mixing.specs.Sum.{weighted}
 use Rattle.mixing.proofs.Sum.{total-ext}
 use Rattle.curves.specs.Curves.{entryOf, Row}
@@ -56,3 +57,17 @@ unfolding W weighted rowOf
 row-weighed v a s xs =
     total-ext 471 (λ k. v k * getD (rowOf a s xs) k 0) (λ k. v k * T a s xs (360 + k))
     (λ k h. ap (λ x. v k * x) (getD-listed 471 (λ q. T a s xs (360 + q)) k h))
+
+-- a refusal's place fits a row that the grid allows
+pub light-place : (a s : ℕ) (xs : List ℕ) → placeOf (lightCheck a s xs) ≤ 531
+unfolding lightCheck
+light-place a s xs = go (gridCheck a s (length xs)) refl
+  where
+    go : (c : Check) → gridCheck a s (length xs) ≡ c → placeOf (unless c Refused (samplesCheck xs)) ≤ 531
+    go Fine e =
+      let many = accepted a s (length xs) e .many in
+      let place = limit-place 4 1000000 0 xs in
+      omega arith
+    go (Refused r) e =
+      let none : placeOf (Refused r) ≡ 0 = (rw e at (grid-place a s (length xs))) in
+      omega arith
