@@ -34,7 +34,7 @@ limit-place number limit place [] = omega arith
 limit-place number limit place (x ∷ xs) = go (leb x limit) (limit-place number limit (suc place) xs)
   where
     go :
-      (b : Bool) → placeOf (limitCheck number limit (suc place) xs) ≤ suc place + length xs →
-      placeOf (cond b (limitCheck number limit (suc place) xs) (Refused (refusal number place))) ≤ place + suc (length xs)
+        (b : Bool) → placeOf (limitCheck number limit (suc place) xs) ≤ suc place + length xs →
+        placeOf (cond b (limitCheck number limit (suc place) xs) (Refused (refusal number place))) ≤ place + suc (length xs)
     go true h = omega arith
     go false h = omega arith

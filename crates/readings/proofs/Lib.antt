@@ -5,3 +5,4 @@ pub mod Together
 pub mod Mixed
 pub mod Instances
 pub mod Unlit
+pub mod Places

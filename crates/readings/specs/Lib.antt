@@ -1,4 +1,5 @@
 -- Definitions of the crate `readings`.
 pub mod Readings
 pub mod Colour
+pub mod Figures
 pub mod Promises

@@ -65,9 +65,9 @@ light-place a s xs = go (gridCheck a s (length xs)) refl
   where
     go : (c : Check) → gridCheck a s (length xs) ≡ c → placeOf (unless c Refused (samplesCheck xs)) ≤ 531
     go Fine e =
-      let many = accepted a s (length xs) e .many in
-      let place = limit-place 4 1000000 0 xs in
-      omega arith
+        let many = accepted a s (length xs) e .many in
+        let place = limit-place 4 1000000 0 xs in
+        omega arith
     go (Refused r) e =
-      let none : placeOf (Refused r) ≡ 0 = (rw e at (grid-place a s (length xs))) in
-      omega arith
+        let none : placeOf (Refused r) ≡ 0 = (rw e at (grid-place a s (length xs))) in
+        omega arith

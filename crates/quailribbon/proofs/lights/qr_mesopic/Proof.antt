@@ -1,0 +1,21 @@
+-- A refusal's place fits 32 bits.
+use mathlib.Core.Path.{_∙_, ap}
+use native.Mathlib.Omega.{arith}
+use Rattle.readings.proofs.Places.{mesopic-place}
+use Rattle.answers.specs.Said.{saidReading}
+use Rattle.quailribbon.specs.Flat.{flatReading}
+use borrow.Author.Needs.{needs}
+use Rattle.quailribbon.proofs.lights.qr_mesopic.Statement.{statement}
+use Rattle.quailribbon.proofs.lights.qr_mesopic.Tie as tie
+
+mesopic-requires : tie.Need-mesopic-requires
+mesopic-requires c κs = search needs
+
+flat-reading-requires : tie.Need-flat-reading-requires
+flat-reading-requires c κs = let h = mesopic-place (c .before .before .args .start) (c .before .before .args .step) (c .before .before .args .samples .now) (c .before .before .args .k) in rw (c .mesopic .ensures) (omega arith)
+
+returns : tie.Need-returns
+returns c = c .flat-reading .ensures ∙ ap (λ r. flatReading (saidReading r)) (c .before .mesopic .ensures)
+
+pub qr-mesopic-spec : {M : Type 1} → statement M
+qr-mesopic-spec = tie.close (tie.spec mesopic-requires flat-reading-requires returns)

@@ -1,0 +1,22 @@
+-- A refusal's place fits 32 bits.
+use mathlib.Core.Path.{_∙_, ap}
+use native.Mathlib.Omega.{arith}
+use Rattle.readings.proofs.Places.{illuminance-place}
+use Rattle.answers.specs.Said.{saidReading}
+use Rattle.quailribbon.specs.Flat.{flatReading}
+use Rattle.curves.specs.declared.Curve.the-variants.{YBar10}
+use borrow.Author.Needs.{needs}
+use Rattle.quailribbon.proofs.lights.qr_photopic_10.Statement.{statement}
+use Rattle.quailribbon.proofs.lights.qr_photopic_10.Tie as tie
+
+photopic-10-requires : tie.Need-photopic-10-requires
+photopic-10-requires c κs = search needs
+
+flat-reading-requires : tie.Need-flat-reading-requires
+flat-reading-requires c κs = let h = illuminance-place (c .before .before .args .start) (c .before .before .args .step) (c .before .before .args .samples .now) YBar10 684 in rw (c .photopic-10 .ensures) (omega arith)
+
+returns : tie.Need-returns
+returns c = c .flat-reading .ensures ∙ ap (λ r. flatReading (saidReading r)) (c .before .photopic-10 .ensures)
+
+pub qr-photopic-10-spec : {M : Type 1} → statement M
+qr-photopic-10-spec = tie.close (tie.spec photopic-10-requires flat-reading-requires returns)

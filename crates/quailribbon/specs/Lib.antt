@@ -1,0 +1,2 @@
+-- Definitions of the crate `quailribbon`.
+pub mod Flat

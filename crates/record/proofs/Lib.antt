@@ -1,0 +1,13 @@
+-- Laws of the definitions of `record`.
+pub mod Bits
+pub mod Rows
+pub mod Window
+pub mod Fields
+pub mod Store
+pub mod Packed
+pub mod Turn
+pub mod Refusals
+pub mod Accepted
+pub mod Reading
+pub mod Round
+pub mod Promises

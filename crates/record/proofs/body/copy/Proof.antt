@@ -1,0 +1,74 @@
+-- The loop's invariant: the first k of the row, and behind them what was there before.
+use mathlib.Core.Path.{_≡_, refl, ap, _∙_}
+use mathlib.Core.List.{List, _++_}
+use Prim.Native.Nat.{ℕ, _≤_, _-_}
+use native.Mathlib.Omega.{arith}
+use borrow.Author.Needs.{needs}
+use lib.ListN.{length, take, drop, getD, set, length-set}
+use lib.Seq.{take-length}
+use Rattle.record.proofs.Store.{front-more}
+use Rattle.record.proofs.body.copy.Statement.{statement}
+use Rattle.record.proofs.body.copy.Tie as tie
+
+abbrev Inv-loop : tie.InvT-loop
+Inv-loop row samples₀ k₀ k-end samples k = (k ≤ length row) × (samples ≡ take k row ++ drop k samples₀) × (length samples ≡ length samples₀)
+
+abbrev μ-loop : tie.MeasureT-loop
+μ-loop row samples₀ k₀ k-end samples k = length row - k
+
+loop-holds : tie.Need-loop-holds Inv-loop μ-loop
+loop-holds c = (omega arith, refl, refl)
+
+mul-samples : tie.Need-mul-samples Inv-loop μ-loop
+mul-samples c = search needs
+
+shared-slice-read-samples : tie.Need-shared-slice-read-samples Inv-loop μ-loop
+shared-slice-read-samples c = omega arith
+
+mul-samples-2 : tie.Need-mul-samples-2 Inv-loop μ-loop
+mul-samples-2 c = search needs
+
+slice-write-samples : tie.Need-slice-write-samples Inv-loop μ-loop
+slice-write-samples c = omega arith
+
+add-k : tie.Need-add-k Inv-loop μ-loop
+add-k c = omega arith
+
+loop-less : tie.Need-loop-less Inv-loop μ-loop
+loop-less c = omega arith
+
+loop-again : tie.Need-loop-again Inv-loop μ-loop
+loop-again c =
+    let row = c .before .before .before .args .row .now in
+    let samples = c .before .before .before .args .samples .now in
+    let k = c .before .before .loop .k in (
+      omega arith,
+      ap (λ (s : List ℕ). set s k (getD row k 0)) (c .before .before .loop .inv .1) ∙ front-more samples row k (omega arith) (c .before .before .before .pre),
+      simp length-set (c .before .before .loop .inv .2),
+    )
+
+same-length : tie.Need-same-length Inv-loop μ-loop
+same-length c = c .before .loop .inv .2
+
+returns : tie.Need-returns Inv-loop μ-loop
+returns c =
+    let row = c .before .before .args .row .now in
+    let e : c .before .loop .k ≡ length row = omega arith in
+    rw e at (c .before .loop .inv .1) ∙ ap (λ (s : List ℕ). s ++ drop (length row) (c .before .before .args .samples .now)) (take-length row)
+
+pub copy-spec : {M : Type 1} → statement M
+copy-spec =
+    tie.close
+    (tie.spec
+    Inv-loop
+    μ-loop
+    loop-holds
+    mul-samples
+    shared-slice-read-samples
+    mul-samples-2
+    slice-write-samples
+    add-k
+    loop-less
+    loop-again
+    same-length
+    returns)

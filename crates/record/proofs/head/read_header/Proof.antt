@@ -1,0 +1,111 @@
+-- The tests are those of the fields in the number that the first three bytes make.
+use mathlib.Core.Path.{_≡_, sym, ap, _∙_}
+use mathlib.Core.List.{List}
+use Prim.Native.Nat.{ℕ, _+_, _/_, _%_}
+use native.Mathlib.Omega.{arith}
+use Rattle.grid.specs.Check.{gridCheck}
+use Rattle.record.specs.Answer.{headerCheck}
+use Rattle.record.specs.Format.{headerOf, headerWidths, stepOfCode}
+use Rattle.record.proofs.Rows.{digits}
+use Rattle.record.proofs.Fields.{header-digits}
+use Rattle.record.proofs.Refusals.{short-refused, edition-refused, reserved-refused, header-passed}
+use borrow.Author.Needs.{needs}
+use Rattle.record.proofs.head.read_header.Statement.{statement}
+use Rattle.record.proofs.head.read_header.Tie as tie
+
+-- the header's three bytes are read as one number
+abbrev bytes : tie.After-three → List ℕ
+bytes c = c .before .before .before .args .bytes .now
+
+abbrev number : tie.After-three → ℕ
+number c = c .three .result
+
+fields : (c : tie.After-three) → headerOf (bytes c) ≡ digits headerWidths (number c)
+fields c =
+    header-digits (bytes c) (λ i. omega (arith, c .before .before .shared-slice-known .given i)) (c .before .if1 .left)
+    ∙ ap (digits headerWidths) (sym (c .three .ensures .0))
+
+passed :
+    (c : tie.Else3) →
+    headerCheck (bytes (c .before .before))
+    ≡ gridCheck (300 + number (c .before .before) / 2048 % 128) (stepOfCode (number (c .before .before) / 262144 % 4)) (number (c .before .before) / 2 % 1024)
+passed c =
+    let three = c .before .before in
+    header-passed (bytes three) (number three) (three .before .if1 .left) (fields three) (three .three .ensures .1) (c .before .if2 .left) (c .if3 .left)
+
+refused-requires : tie.Need-refused-requires
+refused-requires c κs = search needs
+
+returns : tie.Need-returns
+returns c = rw (short-refused (c .before .before .before .args .bytes .now) (c .before .if1 .taken)) (c .refused .ensures)
+
+three-requires : tie.Need-three-requires
+three-requires c κs = search needs
+
+refused-requires-2 : tie.Need-refused-requires-2
+refused-requires-2 c κs = search needs
+
+returns-2 : tie.Need-returns-2
+returns-2 c =
+    let three = c .before .before in
+    let refuse = edition-refused (bytes three) (number three) (three .before .if1 .left) (fields three) (three .three .ensures .1) in
+    rw (refuse (c .before .if2 .taken)) (c .refused2 .ensures)
+
+refused-requires-3 : tie.Need-refused-requires-3
+refused-requires-3 c κs = search needs
+
+returns-3 : tie.Need-returns-3
+returns-3 c =
+    let three = c .before .before .before in
+    let refuse = reserved-refused (bytes three) (number three) (three .before .if1 .left) (fields three) (three .three .ensures .1) in
+    rw (refuse (c .before .before .if2 .left) (c .before .if3 .taken)) (c .refused3 .ensures)
+
+add-start : tie.Need-add-start
+add-start c = search needs
+
+step-of-requires : tie.Need-step-of-requires
+step-of-requires c κs = search needs
+
+cast-count : tie.Need-cast-count
+cast-count c = search needs
+
+check-grid-requires : tie.Need-check-grid-requires
+check-grid-requires c κs = search needs
+
+enum-told : tie.Need-enum-told
+enum-told c = search needs
+
+enum-known-refusal : tie.Need-enum-known-refusal
+enum-known-refusal c = search needs
+
+returns-4 : tie.Need-returns-4
+returns-4 c =
+    let three = c .before .before .before .before .before .before in
+    let v = number three in
+    let grid = sym (c .before .before .check-grid .ensures) ∙ c .enum-told .given .1 in
+    rw (passed (c .before .before .before .before), ← c .before .before .before .step-of .ensures, grid, fields three, ← c .before .before .before .step-of .ensures)
+
+returns-5 : tie.Need-returns-5
+returns-5 c =
+    let grid = sym (c .before .before .before .check-grid .ensures) ∙ c .before .refusal .given .1 in
+    rw (passed (c .before .before .before .before .before), ← c .before .before .before .before .step-of .ensures, grid)
+
+pub read-header-spec : {M : Type 1} → statement M
+read-header-spec =
+    tie.close
+    (tie.spec
+    refused-requires
+    returns
+    three-requires
+    refused-requires-2
+    returns-2
+    refused-requires-3
+    returns-3
+    add-start
+    step-of-requires
+    cast-count
+    check-grid-requires
+    enum-told
+    enum-known-refusal
+    returns-4
+    returns-5)

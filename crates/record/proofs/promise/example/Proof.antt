@@ -1,0 +1,15 @@
+-- The example by computation.
+use mathlib.Core.Path.{refl}
+use Rattle.grid.specs.Check.{gridCheck, limitCheck}
+use Rattle.record.specs.Answer.{spectrumCheck}
+use Rattle.record.specs.Bits.{bitsOf, num, pack, cut}
+use Rattle.record.specs.Format.{recordOf}
+use Rattle.record.proofs.promise.example.Statement.{statement}
+use Rattle.record.proofs.promise.example.Tie as tie
+
+returns : tie.Need-returns
+unfolding spectrumCheck gridCheck limitCheck recordOf pack cut bitsOf num
+returns c = record { accepted = refl; length = refl; begins = refl }
+
+pub example-spec : {M : Type 1} → statement M
+example-spec = tie.close (tie.spec returns)

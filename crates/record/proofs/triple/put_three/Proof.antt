@@ -1,0 +1,63 @@
+-- Three stores, of the number's three digits in base 256.
+use native.Mathlib.Omega.{arith}
+use lib.ListN.{length-set}
+use lib.Seq.{sets-eq}
+use mathlib.Core.Path.{_≡_}
+use mathlib.Core.List.{[], _∷_}
+use Prim.Native.Nat.{suc, _+_, _/_, _%_}
+use native.Mathlib.Nat.{div-one}
+use Rattle.record.proofs.Rows.{cut-number}
+use borrow.Author.Needs.{needs}
+use Rattle.record.proofs.triple.put_three.Statement.{statement}
+use Rattle.record.proofs.triple.put_three.Tie as tie
+
+cast-bytes : tie.Need-cast-bytes
+cast-bytes c = search needs
+
+slice-write-bytes : tie.Need-slice-write-bytes
+slice-write-bytes c = search needs
+
+cast-bytes-2 : tie.Need-cast-bytes-2
+cast-bytes-2 c = search needs
+
+add-bytes : tie.Need-add-bytes
+add-bytes c = search needs
+
+slice-write-bytes-2 : tie.Need-slice-write-bytes-2
+slice-write-bytes-2 c = simp length-set (omega arith)
+
+cast-bytes-3 : tie.Need-cast-bytes-3
+cast-bytes-3 c = search needs
+
+add-bytes-2 : tie.Need-add-bytes-2
+add-bytes-2 c = search needs
+
+slice-write-bytes-3 : tie.Need-slice-write-bytes-3
+slice-write-bytes-3 c = simp length-set (omega arith)
+
+same-length : tie.Need-same-length
+same-length c = search needs
+
+returns : tie.Need-returns
+returns c =
+    let v = c .args .number in
+    let at = c .args .at in
+    let bytes = c .args .bytes .now in
+    let one : at + 1 ≡ suc at = omega arith in
+    let two : at + 2 ≡ suc (suc at) = omega arith in
+    rw (cut-number (8 ∷ 8 ∷ 8 ∷ []) v, div-one, one, two) (sets-eq (v / 65536 % 256 ∷ v / 256 % 256 ∷ v % 256 ∷ []) bytes at (c .pre))
+
+pub put-three-spec : {M : Type 1} → statement M
+put-three-spec =
+    tie.close
+    (tie.spec
+    cast-bytes
+    slice-write-bytes
+    cast-bytes-2
+    add-bytes
+    slice-write-bytes-2
+    cast-bytes-3
+    add-bytes-2
+    slice-write-bytes-3
+    same-length
+    returns)

@@ -1,0 +1,76 @@
+-- The loop's invariant: the first k samples of the record, and behind them what was there before.
+use mathlib.Core.Path.{_≡_, refl, ap, _∙_}
+use mathlib.Core.List.{List, _++_}
+use Prim.Native.Nat.{ℕ, _≤_, _-_}
+use native.Mathlib.Omega.{arith}
+use lib.ListN.{length, take, drop, set, length-set}
+use lib.Seq.{take-all}
+use Rattle.record.specs.Format.{samplesOf}
+use Rattle.record.proofs.Store.{front-more}
+use Rattle.record.proofs.Fields.{samples-length}
+use Rattle.record.proofs.unpack.unpack.Statement.{statement}
+use Rattle.record.proofs.unpack.unpack.Tie as tie
+
+abbrev Inv-loop : tie.InvT-loop
+Inv-loop bytes count row₀ k₀ row k = (k ≤ count) × (row ≡ take k (samplesOf count bytes) ++ drop k row₀) × (length row ≡ length row₀)
+
+abbrev μ-loop : tie.MeasureT-loop
+μ-loop bytes count row₀ k₀ row k = count - k
+
+loop-holds : tie.Need-loop-holds Inv-loop μ-loop
+loop-holds c = (omega arith, refl, refl)
+
+sample-requires : tie.Need-sample-requires Inv-loop μ-loop
+sample-requires c κs = omega arith
+
+mul-row : tie.Need-mul-row Inv-loop μ-loop
+mul-row c = omega arith
+
+slice-write-row : tie.Need-slice-write-row Inv-loop μ-loop
+slice-write-row c = omega arith
+
+add-k : tie.Need-add-k Inv-loop μ-loop
+add-k c = omega arith
+
+loop-less : tie.Need-loop-less Inv-loop μ-loop
+loop-less c = omega arith
+
+loop-again : tie.Need-loop-again Inv-loop μ-loop
+loop-again c =
+    let bytes = c .before .before .before .before .before .args .bytes .now in
+    let n = c .before .before .before .before .before .args .count in
+    let row = c .before .before .before .before .before .args .row .now in
+    let k = c .before .before .loop .k in (
+      omega arith,
+      ap (λ (s : List ℕ). set s k (c .sample .result)) (c .before .before .loop .inv .1)
+          ∙ ap (λ (x : ℕ). set (take k (samplesOf n bytes) ++ drop k row) k x) (c .sample .ensures)
+          ∙ front-more row (samplesOf n bytes) k (rw samples-length (omega arith)) (rw samples-length (omega arith)),
+      simp length-set (c .before .before .loop .inv .2),
+    )
+
+same-length : tie.Need-same-length Inv-loop μ-loop
+same-length c = c .before .loop .inv .2
+
+returns : tie.Need-returns Inv-loop μ-loop
+returns c =
+    let bytes = c .before .before .before .before .args .bytes .now in
+    let n = c .before .before .before .before .args .count in
+    let row = c .before .before .before .before .args .row .now in
+    let e : c .before .loop .k ≡ n = omega arith in
+    rw e at (c .before .loop .inv .1) ∙ ap (λ (s : List ℕ). s ++ drop n row) (take-all n (samplesOf n bytes) (omega (arith, samples-length n bytes)))
+
+pub unpack-spec : {M : Type 1} → statement M
+unpack-spec =
+    tie.close
+    (tie.spec
+    Inv-loop
+    μ-loop
+    loop-holds
+    sample-requires
+    mul-row
+    slice-write-row
+    add-k
+    loop-less
+    loop-again
+    same-length
+    returns)

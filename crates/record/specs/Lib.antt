@@ -1,0 +1,6 @@
+-- Definitions of the crate `record`.
+pub mod Bits
+pub mod Format
+pub mod Answer
+pub mod Leaf
+pub mod Promise

@@ -1,0 +1,52 @@
+-- What is promised of records: accepted spectra and accepted records are one to one.
+use mathlib.Core.Path.{_≡_}
+use mathlib.Core.List.{List, [], _∷_, _++_}
+use Prim.Native.Nat.{ℕ, _≤_}
+use lib.ListN.{length, take, drop, replicate}
+use Rattle.grid.specs.declared.Check.the-variants.{Fine}
+use Rattle.record.specs.Bits.{Bytes}
+use Rattle.record.specs.Format.{lengthOf, recordOf}
+use Rattle.record.specs.Answer.{spectrumCheck, header, readAnswer, rowAfter, writeAnswer, bytesAfter}
+use Rattle.record.specs.declared.Header.{Header}
+use Rattle.record.specs.declared.RecordRead.the-variants.{Read}
+use Rattle.record.specs.declared.RecordWritten.the-variants.{Written}
+
+-- an accepted spectrum is written where there is room, and reading its record gives it back
+pub record ReadBack : Type 0 where
+  pub written :
+      (a s : ℕ) (xs bytes : List ℕ) → spectrumCheck a s xs ≡ Fine → lengthOf (length xs) ≤ length bytes →
+      (writeAnswer a s xs (length bytes) ≡ Written (lengthOf (length xs)))
+      × (bytesAfter a s xs bytes ≡ recordOf a s xs ++ drop (lengthOf (length xs)) bytes)
+  pub read :
+      (a s : ℕ) (xs row : List ℕ) → spectrumCheck a s xs ≡ Fine → length xs ≤ length row →
+      (readAnswer (recordOf a s xs) (length row) ≡ Read (header a s (length xs)))
+      × (rowAfter (recordOf a s xs) row ≡ xs ++ drop (length xs) row)
+
+-- what is read of an accepted record, written where there is room, gives the very bytes
+pub record WrittenBack : Type 0 where
+  pub answer :
+      (bytes row lent : List ℕ) (h : Header) → Bytes bytes → readAnswer bytes (length row) ≡ Read h → length bytes ≤ length lent →
+      writeAnswer (h .start) (h .step) (take (h .count) (rowAfter bytes row)) (length lent) ≡ Written (length bytes)
+  pub bytes :
+      (bytes row lent : List ℕ) (h : Header) → Bytes bytes → readAnswer bytes (length row) ≡ Read h → length bytes ≤ length lent →
+      bytesAfter (h .start) (h .step) (take (h .count) (rowAfter bytes row)) lent ≡ bytes ++ drop (length bytes) lent
+
+-- two accepted records that read alike are the same bytes
+pub record OneToOne : Type 0 where
+  pub same :
+      (bytes others row : List ℕ) (h : Header) → Bytes bytes → Bytes others →
+      readAnswer bytes (length row) ≡ Read h → readAnswer others (length row) ≡ Read h →
+      take (h .count) (rowAfter bytes row) ≡ take (h .count) (rowAfter others row) → bytes ≡ others
+
+-- the length of an accepted spectrum's record, from 106 bytes to 1,331
+pub record Length : Type 0 where
+  pub bytes : (a s : ℕ) (xs : List ℕ) → Bytes (recordOf a s xs)
+  pub exact : (a s : ℕ) (xs : List ℕ) → length (recordOf a s xs) ≡ lengthOf (length xs)
+  pub least : (a s : ℕ) (xs : List ℕ) → spectrumCheck a s xs ≡ Fine → 106 ≤ lengthOf (length xs)
+  pub most : (a s : ℕ) (xs : List ℕ) → spectrumCheck a s xs ≡ Fine → lengthOf (length xs) ≤ 1331
+
+-- 380 nm, step 1, 401 samples, all 0 but 1,000,000 at 460 nm: the record has 1,006 bytes and begins hex 12 83 22
+pub record Example : Type 0 where
+  pub accepted : spectrumCheck 380 1 (replicate 80 0 ++ 1000000 ∷ replicate 320 0) ≡ Fine
+  pub length : length (recordOf 380 1 (replicate 80 0 ++ 1000000 ∷ replicate 320 0)) ≡ 1006
+  pub begins : take 3 (recordOf 380 1 (replicate 80 0 ++ 1000000 ∷ replicate 320 0)) ≡ 0x12 ∷ 0x83 ∷ 0x22 ∷ []

@@ -1,0 +1,63 @@
+// What stands behind the header: its length, its padding and its samples, checked and then copied.
+ghost use mathlib.Core.Path.{_≡_};
+ghost use mathlib.Core.List.{_++_};
+ghost use Prim.Native.Nat.{_≤_};
+ghost use lib.ListN.{length, drop};
+ghost use lib.Dec.{eqb};
+ghost use Rattle.record.specs.Leaf.{restCheck, restRow};
+ghost use Rattle.record.specs.Format.{lengthOf, paddingOf};
+use crate::unpack::unpack;
+use grid::Check;
+
+// The bytes of a record of so many samples.
+pub fn length_of(count: usize) -> usize
+    requires { ⌜ count ≤ 531 ⌝ }
+    ensures { λ r. ⌜ r ≡ lengthOf count ⌝ }
+{
+    3 + (5 * count + 1) / 2
+}
+
+// LENGTH, PADDING, SAMPLE, ROOM, and then the samples.
+pub fn read_body(bytes: &[u8], count: usize, samples: &mut [u32]) -> Check
+    requires { ⌜ (1 ≤ count) × (count ≤ 531) ⌝ }
+    ensures { λ r. ⌜ r ≡ restCheck count (now (bytes .entry)) (length (now (samples .entry))) ⌝ }
+    ensures { λ _. ⌜ now (samples .exit) ≡ restRow count (now (bytes .entry)) (now (samples .entry)) ⌝ }
+{
+    if bytes.len() != length_of(count) {
+        return grid::refused(12);
+    }
+    if !padding_is_clear(bytes, count) {
+        return grid::refused(13);
+    }
+    let mut row = [0u32; 531];
+    unpack(bytes, count, &mut row);
+    if let Check::Refused(refusal) = grid::check_samples(&row[..count]) {
+        return Check::Refused(refusal);
+    }
+    if samples.len() < count {
+        return grid::refused(14);
+    }
+    copy(&row[..count], samples);
+    Check::Fine
+}
+
+// Whether the padding bits, if there are any, are 0.
+fn padding_is_clear(bytes: &[u8], count: usize) -> bool
+    requires { ⌜ (1 ≤ count) × (length (now bytes) ≡ lengthOf count) ⌝ }
+    ensures { λ r. ⌜ r ≡ eqb (paddingOf count (now (bytes .entry))) 0 ⌝ }
+{
+    if count % 2 == 0 {
+        return true;
+    }
+    bytes[bytes.len() - 1] % 16 == 0
+}
+
+// Copies a row to the front of another.
+fn copy(row: &[u32], samples: &mut [u32])
+    requires { ⌜ length (now row) ≤ length (now samples) ⌝ }
+    ensures { λ _. ⌜ now (samples .exit) ≡ now (row .entry) ++ drop (length (now (row .entry))) (now (samples .entry)) ⌝ }
+{
+    for k in 0..row.len() {
+        samples[k] = row[k];
+    }
+}

@@ -1,0 +1,90 @@
+// The packed record: a spectrum's start, step and samples in as few bits as they need.
+ghost use mathlib.Core.Path.{_≡_};
+ghost use lib.ListN.{length};
+ghost use Rattle.record.specs.Answer.{readAnswer, rowAfter, writeAnswer, bytesAfter, spectrumCheck};
+use grid::Check;
+use grid::Refusal;
+
+mod body;
+mod head;
+mod pack;
+pub mod promise;
+mod triple;
+mod unpack;
+
+// What a record's header says of its spectrum.
+pub struct Header {
+    pub start: u32,
+    pub step: u32,
+    pub count: usize,
+}
+
+// What reading a record gives.
+pub enum RecordRead {
+    Read(Header),
+    Refused(Refusal),
+}
+
+// What writing a record gives: the number of bytes written.
+pub enum RecordWritten {
+    Written(usize),
+    Refused(Refusal),
+}
+
+// Reads a record's samples into the front of the lent row: LENGTH where under 3 bytes, EDITION, RESERVED, START, COUNT, LENGTH, PADDING,
+// SAMPLE, ROOM.
+pub fn read_record(bytes: &[u8], samples: &mut [u32]) -> RecordRead
+    ensures { λ r. ⌜ r ≡ readAnswer (now (bytes .entry)) (length (now (samples .entry))) ⌝ }
+    ensures { λ _. ⌜ now (samples .exit) ≡ rowAfter (now (bytes .entry)) (now (samples .entry)) ⌝ }
+{
+    let answer = head::read_header(bytes);
+    let RecordRead::Read(said) = answer else {
+        return answer;
+    };
+    let count = said.count;
+    match body::read_body(bytes, count, samples) {
+        Check::Fine => RecordRead::Read(said),
+        Check::Refused(refusal) => RecordRead::Refused(refusal),
+    }
+}
+
+// Writes a spectrum's record to the front of the lent bytes: STEP, START, COUNT, SAMPLE, ROOM.
+pub fn write_record(start: u32, step: u32, samples: &[u32], bytes: &mut [u8]) -> RecordWritten
+    ensures { λ r. ⌜ r ≡ writeAnswer start step (now (samples .entry)) (length (now (bytes .entry))) ⌝ }
+    ensures { λ _. ⌜ now (bytes .exit) ≡ bytesAfter start step (now (samples .entry)) (now (bytes .entry)) ⌝ }
+{
+    match check_spectrum(start, step, samples) {
+        Check::Fine => write_accepted(start, step, samples, bytes),
+        Check::Refused(refusal) => RecordWritten::Refused(refusal),
+    }
+}
+
+// STEP, START, COUNT, SAMPLE.
+fn check_spectrum(start: u32, step: u32, samples: &[u32]) -> Check
+    ensures { λ r. ⌜ r ≡ spectrumCheck start step (now (samples .entry)) ⌝ }
+{
+    match grid::check_grid(start, step, samples.len()) {
+        Check::Fine => grid::check_samples(samples),
+        Check::Refused(refusal) => Check::Refused(refusal),
+    }
+}
+
+// ROOM, and then the bytes.
+fn write_accepted(start: u32, step: u32, samples: &[u32], bytes: &mut [u8]) -> RecordWritten
+    requires { ⌜ spectrumCheck start step (now samples) ≡ Check.Fine ⌝ }
+    ensures { λ r. ⌜ r ≡ writeAnswer start step (now (samples .entry)) (length (now (bytes .entry))) ⌝ }
+    ensures { λ _. ⌜ now (bytes .exit) ≡ bytesAfter start step (now (samples .entry)) (now (bytes .entry)) ⌝ }
+{
+    let count = samples.len();
+    let length = body::length_of(count);
+    if bytes.len() < length {
+        return RecordWritten::Refused(Refusal {
+            number: 14,
+            place: 0,
+        });
+    }
+    let number = head::header_number(start, step, count);
+    triple::put_three(bytes, 0, number);
+    pack::pack(samples, bytes);
+    RecordWritten::Written(length)
+}
