@@ -1,5 +1,4 @@
 -- The flat answers that C gets: number, place and values of what is said.
-use mathlib.Core.List.{[]}
 use Prim.Native.Nat.{ℕ}
 use lib.ListN.{getD}
 use lib.IntN.{pos}

@@ -1,2 +1,3 @@
 -- Definitions of the crate `quailribbon`.
 pub mod Flat
+pub mod Records

@@ -5,12 +5,15 @@ use answers::Reading;
 use answers::XyAnswer;
 use answers::XyzAnswer;
 use readings::report::FiguresAnswer;
+use record::RecordRead;
+use record::RecordWritten;
 ghost use mathlib.Core.Path.{_≡_};
-ghost use Prim.Native.Nat.{_^_, _<_};
 ghost use Rattle.answers.specs.Said.{saidReading, saidXyz, saidXy, saidChart};
+ghost use Prim.Native.Nat.{_^_, _<_};
 ghost use lib.ListN.{getD};
 ghost use Rattle.readings.specs.Figures.{saidFigures, colourValues};
-ghost use Rattle.quailribbon.specs.Flat.{flatReading, flatXyz, flatXy, flatChart, flatFigures};
+ghost use Rattle.quailribbon.specs.Flat.{value, flatReading, flatXyz, flatXy, flatChart, flatFigures};
+ghost use Rattle.quailribbon.specs.Records.{saidRead, saidWritten, flatRecord, flatWritten};
 
 #[repr(C)]
 pub struct QrReading {
@@ -57,6 +60,22 @@ pub struct QrFigures {
     pub dark: u32,
     pub x: u32,
     pub y: u32,
+}
+
+#[repr(C)]
+pub struct QrRecord {
+    pub number: u32,
+    pub place: u32,
+    pub start: u32,
+    pub step: u32,
+    pub count: u32,
+}
+
+#[repr(C)]
+pub struct QrWritten {
+    pub number: u32,
+    pub place: u32,
+    pub length: u32,
 }
 
 pub fn flat_reading(answer: Reading) -> QrReading
@@ -213,5 +232,45 @@ fn y_of(xy: XyAnswer) -> u32
     match xy {
         XyAnswer::Value(value) => value.y,
         XyAnswer::Refused(_) => 0,
+    }
+}
+
+pub fn flat_record(answer: RecordRead) -> QrRecord
+    requires { ⌜ (saidRead answer .place < 2 ^ 32) × (value (saidRead answer) 2 < 2 ^ 32) ⌝ }
+    ensures { λ r. ⌜ r ≡ flatRecord (saidRead answer) ⌝ }
+{
+    match answer {
+        RecordRead::Read(header) => QrRecord {
+            number: 0,
+            place: 0,
+            start: header.start,
+            step: header.step,
+            count: header.count as u32,
+        },
+        RecordRead::Refused(refusal) => QrRecord {
+            number: refusal.number,
+            place: refusal.place as u32,
+            start: 0,
+            step: 0,
+            count: 0,
+        },
+    }
+}
+
+pub fn flat_written(answer: RecordWritten) -> QrWritten
+    requires { ⌜ (saidWritten answer .place < 2 ^ 32) × (value (saidWritten answer) 0 < 2 ^ 32) ⌝ }
+    ensures { λ r. ⌜ r ≡ flatWritten (saidWritten answer) ⌝ }
+{
+    match answer {
+        RecordWritten::Written(length) => QrWritten {
+            number: 0,
+            place: 0,
+            length: length as u32,
+        },
+        RecordWritten::Refused(refusal) => QrWritten {
+            number: refusal.number,
+            place: refusal.place as u32,
+            length: 0,
+        },
     }
 }

@@ -1,3 +1,4 @@
 // The C boundary: every open function of the library under a plain name, with a flat answer by value.
 pub mod flat;
 pub mod lights;
+pub mod records;

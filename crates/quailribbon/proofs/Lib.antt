@@ -1,0 +1,2 @@
+-- Laws of the flat answers.
+pub mod Sizes

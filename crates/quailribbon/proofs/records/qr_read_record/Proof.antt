@@ -1,0 +1,27 @@
+-- Places and counts fit 32 bits.
+use mathlib.Core.Path.{_∙_, ap}
+use lib.ListN.{length}
+use Rattle.quailribbon.proofs.Sizes.{read-small}
+use Rattle.quailribbon.specs.Records.{saidRead, flatRecord}
+use borrow.Author.Needs.{needs}
+use Rattle.quailribbon.proofs.records.qr_read_record.Statement.{statement}
+use Rattle.quailribbon.proofs.records.qr_read_record.Tie as tie
+
+read-record-requires : tie.Need-read-record-requires
+read-record-requires c κs = search needs
+
+flat-record-requires : tie.Need-flat-record-requires
+flat-record-requires c κs = rw (c .before .before .read-record .ensures .0) (read-small (c .before .before .before .before .before .before .args .bytes .now) (length (c .before .before .before .before .before .before .args .samples .now)))
+
+same-length : tie.Need-same-length
+same-length c = search needs
+
+returns : tie.Need-returns
+returns c = (
+  c .flat-record .ensures ∙ ap (λ r. flatRecord (saidRead r)) (c .before .before .before .read-record .ensures .0),
+  c .before .before .before .read-record .ensures .1,
+)
+
+pub qr-read-record-spec : {M : Type 1} → statement M
+qr-read-record-spec =
+    tie.close (tie.spec read-record-requires flat-record-requires same-length returns)

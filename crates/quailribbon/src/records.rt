@@ -1,0 +1,30 @@
+// Reading and writing a packed record, for C.
+use crate::flat::QrRecord;
+use crate::flat::QrWritten;
+use crate::flat::flat_record;
+use crate::flat::flat_written;
+ghost use mathlib.Core.Path.{_≡_};
+ghost use lib.ListN.{length};
+ghost use Rattle.record.specs.Answer.{readAnswer, rowAfter, writeAnswer, bytesAfter};
+ghost use Rattle.quailribbon.specs.Records.{saidRead, saidWritten, flatRecord, flatWritten};
+
+#[no_mangle]
+pub extern "C" fn qr_read_record(bytes: &[u8], samples: &mut [u32]) -> QrRecord
+    ensures { λ r. ⌜ r ≡ flatRecord (saidRead (readAnswer (now (bytes .entry)) (length (now (samples .entry))))) ⌝ }
+    ensures { λ _. ⌜ now (samples .exit) ≡ rowAfter (now (bytes .entry)) (now (samples .entry)) ⌝ }
+{
+    flat_record(record::read_record(bytes, samples))
+}
+
+#[no_mangle]
+pub extern "C" fn qr_write_record(
+    start: u32,
+    step: u32,
+    samples: &[u32],
+    bytes: &mut [u8],
+) -> QrWritten
+    ensures { λ r. ⌜ r ≡ flatWritten (saidWritten (writeAnswer start step (now (samples .entry)) (length (now (bytes .entry))))) ⌝ }
+    ensures { λ _. ⌜ now (bytes .exit) ≡ bytesAfter start step (now (samples .entry)) (now (bytes .entry)) ⌝ }
+{
+    flat_written(record::write_record(start, step, samples, bytes))
+}
