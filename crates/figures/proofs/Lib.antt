@@ -1,0 +1,2 @@
+-- The table's test, and the law that makes its claim of it.
+pub mod Test

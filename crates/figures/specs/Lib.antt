@@ -1,0 +1,4 @@
+-- Definitions of the crate `figures`.
+pub mod Asked
+pub mod Rows
+pub mod Bench

@@ -1,0 +1,80 @@
+-- The bench figures P1 to P10, and some of the project's own.
+use mathlib.Core.List.{List, [], _∷_, _++_}
+use Prim.Native.Nat.{ℕ, _-_}
+use lib.ListN.{replicate}
+use Rattle.mixing.specs.Mixture.{mix}
+use Rattle.answers.specs.Said.{Said, given, refusedWith}
+use Rattle.grid.specs.Check.{refusal}
+use Rattle.figures.specs.Asked.{Asked, photopic, scotopic, photopic10, mesopic, xyz, xy}
+
+-- an input, and what it must give
+pub record Row : Type 0 where
+  pub asked : Asked
+  pub answer : Said
+
+abbrev gives : Asked → List ℕ → Row
+gives asked vs = record { asked = asked; answer = given vs [] }
+
+abbrev refuses : Asked → ℕ → ℕ → Row
+refuses asked number place = record { asked = asked; answer = refusedWith (refusal number place) }
+
+-- n samples, all 0 but v at place i
+abbrev lone : ℕ → ℕ → ℕ → List ℕ
+lone n i v = replicate i 0 ++ v ∷ replicate (n - i - 1) 0
+
+-- from 380 nm at step 1, 401 samples, all 0 but v at a wavelength's place: 460 and 485 nm
+abbrev at460 : ℕ → List ℕ
+at460 v = lone 401 80 v
+
+abbrev at485 : ℕ → List ℕ
+at485 v = lone 401 105 v
+
+unfoldable pub rows : List Row
+rows =
+    -- P1: all zero
+    gives (photopic 380 1 (replicate 401 0)) (0 ∷ [])
+    ∷ gives (scotopic 380 1 (replicate 401 0)) (0 ∷ [])
+    ∷ gives (photopic10 380 1 (replicate 401 0)) (0 ∷ [])
+    ∷ gives (mesopic 500 380 1 (replicate 401 0)) (0 ∷ [])
+    ∷ gives (xyz 2 380 1 (replicate 401 0)) (0 ∷ 0 ∷ 0 ∷ [])
+    ∷ refuses (xy 2 380 1 (replicate 401 0)) 9 0
+    -- P2: 1,000,000 at 460
+    ∷ gives (photopic 380 1 (at460 1000000)) (40980 ∷ [])
+    ∷ gives (scotopic 380 1 (at460 1000000)) (963900 ∷ [])
+    ∷ gives (xyz 2 380 1 (at460 1000000)) (198616 ∷ 40980 ∷ 1140064 ∷ [])
+    ∷ gives (xy 2 380 1 (at460 1000000)) (14396 ∷ 2970 ∷ [])
+    -- P3: exactly 1024.5, and just below
+    ∷ gives (photopic 380 1 (at460 25000)) (1025 ∷ [])
+    ∷ gives (photopic 380 1 (at460 24999)) (1024 ∷ [])
+    -- P4: P2 mesopic at four settings
+    ∷ gives (mesopic 0 380 1 (at460 1000000)) (963336 ∷ [])
+    ∷ gives (mesopic 500 380 1 (at460 1000000)) (305450 ∷ [])
+    ∷ gives (mesopic 1000 380 1 (at460 1000000)) (40980 ∷ [])
+    ∷ refuses (mesopic 1001 380 1 (at460 1000000)) 5 0
+    -- P5: step 5, the line reaches 456 and 464
+    ∷ gives (photopic 380 5 (lone 81 16 1000000)) (205365 ∷ [])
+    -- P6: 1,000,000 at 485
+    ∷ gives (photopic 380 1 (at485 1000000)) (115632 ∷ [])
+    ∷ gives (scotopic 380 1 (at485 1000000)) (1446700 ∷ [])
+    ∷ gives (xy 2 380 1 (at485 1000000)) (6871 ∷ 20072 ∷ [])
+    -- P7: P2 and P6 mixed
+    ∷ gives (photopic 380 1 (mix (at460 1000000) (at485 1000000))) (156612 ∷ [])
+    ∷ gives (xy 2 380 1 (mix (at460 1000000) (at485 1000000))) (12179 ∷ 8008 ∷ [])
+    -- P8: 25,000 at 460 mixed with itself
+    ∷ gives (photopic 380 1 (mix (at460 25000) (at460 25000))) (2049 ∷ [])
+    -- P10: refusals
+    ∷ refuses (photopic 380 3 (replicate 401 0)) 1 0
+    ∷ refuses (photopic 299 1 (replicate 401 0)) 2 0
+    ∷ refuses (photopic 381 1 (replicate 401 0)) 2 0
+    ∷ refuses (photopic 380 1 (replicate 400 0)) 3 0
+    ∷ refuses (photopic 380 1 (lone 401 7 1000001)) 4 7
+    -- our own: a lone 1 at 460, whose X and Y round to 0
+    ∷ gives (xyz 2 380 1 (at460 1)) (0 ∷ 0 ∷ 1 ∷ [])
+    ∷ gives (xy 2 380 1 (at460 1)) (14396 ∷ 2970 ∷ [])
+    -- our own: lit at 359 nm alone, at step 1, which carries no weight
+    ∷ gives (photopic 300 1 (lone 531 59 1000000)) (0 ∷ [])
+    ∷ refuses (xy 2 300 1 (lone 531 59 1000000)) 9 0
+    -- our own: lit at 355 nm alone, at step 10, which pulls on the line that crosses 360
+    ∷ gives (xyz 2 355 10 (lone 44 0 1000000)) (157 ∷ 5 ∷ 733 ∷ [])
+    ∷ gives (xyz 10 355 10 (lone 44 0 1000000)) (0 ∷ 0 ∷ 1 ∷ [])
+    ∷ []
