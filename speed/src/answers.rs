@@ -1,0 +1,110 @@
+//! The answers of the C boundary, laid out as in quailribbon.h.
+//!
+//! Number 0 means that the value is given; else it is the refusal's number, and what a refusal
+//! doesn't give is 0.
+
+/// What every answer has.
+pub trait Answer: PartialEq + std::fmt::Debug {
+    fn number(&self) -> u32;
+}
+
+#[repr(C)]
+#[derive(Clone, Copy, Debug, Default, PartialEq)]
+pub struct Reading {
+    pub number: u32,
+    pub place: u32,
+    pub value: u32,
+}
+
+#[repr(C)]
+#[derive(Clone, Copy, Debug, Default, PartialEq)]
+pub struct XyzAnswer {
+    pub number: u32,
+    pub place: u32,
+    pub x: u32,
+    pub y: u32,
+    pub z: u32,
+}
+
+#[repr(C)]
+#[derive(Clone, Copy, Debug, Default, PartialEq)]
+pub struct XyAnswer {
+    pub number: u32,
+    pub place: u32,
+    pub x: u32,
+    pub y: u32,
+}
+
+#[repr(C)]
+#[derive(Clone, Copy, Debug, Default)]
+pub struct ChartAnswer {
+    pub number: u32,
+    pub place: u32,
+    pub dark: u32,
+    pub x: f64,
+    pub y: f64,
+}
+
+/// Floats are compared by bits, so that 0.0 isn't -0.0.
+impl PartialEq for ChartAnswer {
+    fn eq(&self, other: &Self) -> bool {
+        let whole = |answer: &Self| (answer.number, answer.place, answer.dark);
+        let bits = |answer: &Self| (answer.x.to_bits(), answer.y.to_bits());
+        whole(self) == whole(other) && bits(self) == bits(other)
+    }
+}
+
+#[repr(C)]
+#[derive(Clone, Copy, Debug, Default, PartialEq)]
+pub struct RecordAnswer {
+    pub number: u32,
+    pub place: u32,
+    pub start: u32,
+    pub step: u32,
+    pub count: u32,
+}
+
+#[repr(C)]
+#[derive(Clone, Copy, Debug, Default, PartialEq)]
+pub struct Written {
+    pub number: u32,
+    pub place: u32,
+    pub length: u32,
+}
+
+/// X, Y, Z and x, y are different readings, so the letters' case counts.
+#[allow(non_snake_case)]
+#[repr(C)]
+#[derive(Clone, Copy, Debug, Default, PartialEq)]
+pub struct FiguresAnswer {
+    pub number: u32,
+    pub place: u32,
+    pub photopic: u32,
+    pub scotopic: u32,
+    pub X: u32,
+    pub Y: u32,
+    pub Z: u32,
+    pub dark: u32,
+    pub x: u32,
+    pub y: u32,
+}
+
+macro_rules! answers {
+    ($($name:ident),*) => {
+        $(impl Answer for $name {
+            fn number(&self) -> u32 {
+                self.number
+            }
+        })*
+    };
+}
+
+answers!(
+    Reading,
+    XyzAnswer,
+    XyAnswer,
+    ChartAnswer,
+    RecordAnswer,
+    Written,
+    FiguresAnswer
+);

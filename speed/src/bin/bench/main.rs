@@ -1,0 +1,117 @@
+//! Times the library against the straightforward implementation and against plain dot products.
+//!
+//!     bench                                    prints the tables
+//!     bench count NAME ours|straight ROUNDS    runs one task only, for callgrind
+//!
+//! `valgrind --tool=callgrind --toggle-collect='*counted*' bench count figures ours 1` collects the
+//! instructions of the rounds alone, each of 2,000 items.
+
+mod work;
+
+use std::env;
+use std::process::ExitCode;
+use std::time::Instant;
+use work::{Library, Task, Work, FIGURES, ITEMS, OURS, READING, REPORT, STRAIGHT, TASKS};
+
+/// Each time is the best of so many rounds.
+const ROUNDS: usize = 25;
+
+const NS_A_SECOND: f64 = 1e9;
+
+fn main() -> ExitCode {
+    let arguments: Vec<String> = env::args().skip(1).collect();
+    let arguments: Vec<&str> = arguments.iter().map(String::as_str).collect();
+    match arguments[..] {
+        [] => {
+            print_speed();
+            print_growth();
+            return ExitCode::SUCCESS;
+        }
+        ["count", name, library, rounds] => {
+            let task = TASKS.iter().find(|task| task.name == name);
+            let library = match library {
+                "ours" => Some(&OURS),
+                "straight" => Some(&STRAIGHT),
+                _ => None,
+            };
+            if let (Some(task), Some(library), Ok(rounds)) = (task, library, rounds.parse()) {
+                counted(task, library, &Work::new(380, 1, 401), rounds);
+                return ExitCode::SUCCESS;
+            }
+        }
+        _ => {}
+    }
+    let names: Vec<&str> = TASKS.iter().map(|task| task.name).collect();
+    eprintln!(
+        "bench\nbench count {} ours|straight ROUNDS",
+        names.join("|")
+    );
+    ExitCode::from(2)
+}
+
+/// The rounds alone, under a name of their own, so that callgrind can leave the rest out.
+#[inline(never)]
+fn counted(task: &Task, library: &Library, work: &Work, rounds: usize) {
+    for _ in 0..rounds {
+        (task.round)(library, work);
+    }
+}
+
+/// Nanoseconds for one item, the best of all rounds. The rivals take turns, so that a noisy moment
+/// falls on all of them.
+fn best<const N: usize>(mut rivals: [&mut dyn FnMut(); N]) -> [f64; N] {
+    let mut best = [f64::INFINITY; N];
+    for _ in 0..ROUNDS {
+        for (rival, best) in rivals.iter_mut().zip(&mut best) {
+            let begin = Instant::now();
+            rival();
+            *best = best.min(begin.elapsed().as_secs_f64() * NS_A_SECOND / ITEMS as f64);
+        }
+    }
+    best
+}
+
+fn print_speed() {
+    let work = Work::new(380, 1, 401);
+    println!("Start 380, step 1, n = 401; ns for one, best of {ROUNDS} rounds of {ITEMS}\n");
+    println!("                                 ours  straight  ours/straight  target      dot");
+    let mut reports_a_second = 0.0;
+    for task in &TASKS {
+        let [ours, straight, dot] = best([
+            &mut || (task.round)(&OURS, &work),
+            &mut || (task.round)(&STRAIGHT, &work),
+            &mut || task.dot.iter().for_each(|dot| dot(&work)),
+        ]);
+        let target = task
+            .target
+            .map_or("-".into(), |target| format!("{target:.2}"));
+        let dot = task.dot.map_or("-".into(), |_| format!("{dot:.0}"));
+        let ratio = ours / straight;
+        println!(
+            "{:27}{ours:10.0}{straight:10.0}{ratio:15.2}{target:>8}{dot:>9}",
+            task.says
+        );
+        if task.name == REPORT.name {
+            reports_a_second = NS_A_SECOND / ours;
+        }
+    }
+    println!("\nRecords that a core reads and reports in a second: {reports_a_second:.0}");
+}
+
+fn print_growth() {
+    println!("\nGrowth of ours: ns for one and for each sample\n");
+    println!("step  start  last    n   seven figures  a sample   reading  a sample");
+    for step in [1, 2, 5, 10] {
+        for (start, last) in [(380, 780), (360, 830), (300, 830)] {
+            let count = ((last - start) / step + 1) as usize;
+            let work = Work::new(start, step, count);
+            let [figures, reading] = best([&mut || (FIGURES.round)(&OURS, &work), &mut || {
+                (READING.round)(&OURS, &work)
+            }]);
+            let [figure, read] = [figures, reading].map(|ns| ns / count as f64);
+            println!(
+                "{step:4}{start:7}{last:6}{count:5}{figures:16.0}{figure:10.1}{reading:10.0}{read:10.2}"
+            );
+        }
+    }
+}

@@ -1,0 +1,72 @@
+//! A reading as a fraction, for inputs that are aimed at its rounding.
+
+use super::grid::Grid;
+use super::random::Random;
+use crate::tables::{self, Table, FIRST};
+
+/// A reading at step 1: what a unit of each sample adds to the numerator, and the denominator.
+pub struct Fraction {
+    pub adds: Vec<u128>,
+    pub denominator: u128,
+}
+
+/// One of a light's readings, with this observer or this k.
+pub fn of_light(random: &mut Random, grid: &Grid, observer: u32, k: u32) -> Fraction {
+    let k = u128::from(k);
+    let one = 10_u128.pow(16);
+    let (efficacy, functions) = match observer {
+        2 => (683, [&tables::X, &tables::Y, &tables::Z]),
+        _ => (684, [&tables::X10, &tables::Y10, &tables::Z10]),
+    };
+    let (y, scotopic) = (&tables::Y, &tables::V_PRIME);
+    match random.below(5) {
+        0 => Fraction {
+            adds: each(grid, |row| 1700 * at(scotopic, row)),
+            denominator: one,
+        },
+        1 => Fraction {
+            adds: each(grid, |row| {
+                683_000 * (k * at(y, row) + (1000 - k) * at(scotopic, row))
+            }),
+            denominator: one * (1000 * k + 402 * (1000 - k)),
+        },
+        _ => {
+            let function = random.pick(&functions);
+            Fraction {
+                adds: each(grid, |row| efficacy * at(function, row)),
+                denominator: one,
+            }
+        }
+    }
+}
+
+/// X, Y or Z of a panel.
+pub fn of_panel(random: &mut Random, grid: &Grid, observer: u32, illuminant: u32) -> Fraction {
+    let functions = match observer {
+        2 => [&tables::X, &tables::Y, &tables::Z],
+        _ => [&tables::X10, &tables::Y10, &tables::Z10],
+    };
+    let illuminant = match illuminant {
+        1 => &tables::A,
+        _ => &tables::D65,
+    };
+    let function = random.pick(&functions);
+    let white = (0..tables::WAVELENGTHS).map(|row| at(functions[1], row) * at(illuminant, row));
+    Fraction {
+        adds: each(grid, |row| 10 * at(function, row) * at(illuminant, row)),
+        denominator: white.sum(),
+    }
+}
+
+fn at(table: &Table, row: usize) -> u128 {
+    u128::from(table[row])
+}
+
+/// What each place adds: nothing below 360.
+fn each(grid: &Grid, adds: impl Fn(usize) -> u128) -> Vec<u128> {
+    let of_place = |place| match grid.wavelength(place).checked_sub(FIRST) {
+        Some(row) => adds(row as usize),
+        None => 0,
+    };
+    (0..grid.count).map(of_place).collect()
+}

@@ -1,0 +1,17 @@
+//! The straightforward implementation: the paper's words, one after another, with u128 sums.
+//!
+//! It is what the library is compared with, in its answers and in its speed. Its functions have
+//! the library's names and answers.
+
+mod flat;
+mod light;
+mod line;
+mod panel;
+mod record;
+mod refusal;
+mod report;
+
+pub use light::{chart, figures, mesopic, photopic, photopic_10, scotopic, xy, xyz};
+pub use panel::{panel_chart, panel_xy, panel_xyz};
+pub use record::{read_record, write_record};
+pub use report::report;

@@ -1,0 +1,69 @@
+//! T, the weighted sums W and the rounding: what lights and panels are read with.
+
+use super::refusal::{Refusal, DARK, OBSERVER, OVERRANGE};
+use crate::tables::{self, Table, FIRST};
+
+/// An observer's efficacy and its three functions.
+pub struct Observer {
+    pub efficacy: u128,
+    pub functions: [&'static Table; 3],
+}
+
+/// The observer asked for, or 6.
+pub fn observer(asked: u32) -> Result<Observer, Refusal> {
+    match asked {
+        2 => Ok(Observer {
+            efficacy: 683,
+            functions: [&tables::X, &tables::Y, &tables::Z],
+        }),
+        10 => Ok(Observer {
+            efficacy: 684,
+            functions: [&tables::X10, &tables::Y10, &tables::Z10],
+        }),
+        _ => Err(OBSERVER),
+    }
+}
+
+/// T at each whole nanometre from 360 to 830, of a grid that was checked.
+pub fn line<T: Copy + Into<u64>>(start: u32, step: u32, samples: &[T]) -> Table {
+    let mut line = [0; tables::WAVELENGTHS];
+    let s = u64::from(step);
+    let mut wavelength = start;
+    for pair in samples.windows(2) {
+        let (this, next): (u64, u64) = (pair[0].into(), pair[1].into());
+        for d in 0..s {
+            if wavelength >= FIRST {
+                line[(wavelength - FIRST) as usize] = (s - d) * this + d * next;
+            }
+            wavelength += 1;
+        }
+    }
+    // Here the wavelength is the last one, 780 at least.
+    line[(wavelength - FIRST) as usize] = s * samples[samples.len() - 1].into();
+    line
+}
+
+/// W: the sum over 360 to 830 of weight times line.
+pub fn weigh(weights: &Table, line: &Table) -> u128 {
+    let products = weights
+        .iter()
+        .zip(line)
+        .map(|(&weight, &t)| u128::from(weight) * u128::from(t));
+    products.sum()
+}
+
+/// The nearest whole number, halves up, or 15.
+pub fn nearest(numerator: u128, denominator: u128) -> Result<u32, Refusal> {
+    let nearest = (2 * numerator + denominator) / (2 * denominator);
+    u32::try_from(nearest).map_err(|_| OVERRANGE)
+}
+
+/// x and y from the three exact sums, or 9.
+pub fn coordinates(sums: [u128; 3]) -> Result<[u32; 2], Refusal> {
+    let [x, y, z] = sums;
+    let total = x + y + z;
+    if total == 0 {
+        return Err(DARK);
+    }
+    Ok([nearest(100_000 * x, total)?, nearest(100_000 * y, total)?])
+}

@@ -1,0 +1,84 @@
+//! The readings of a panel.
+
+use super::flat::{chart_answer, xy_answer, xyz_answer};
+use super::line::{coordinates, line, nearest, observer, weigh};
+use super::refusal::{check_each, check_grid, Refusal, ILLUMINANT, REFLECTANCE};
+use crate::answers::{ChartAnswer, XyAnswer, XyzAnswer};
+use crate::tables::{Table, A, D65};
+
+const LARGEST_REFLECTANCE: u16 = 10_000;
+
+pub fn panel_xyz(
+    observer: u32,
+    illuminant: u32,
+    start: u32,
+    step: u32,
+    reflectances: &[u16],
+) -> XyzAnswer {
+    xyz_answer(tristimulus(observer, illuminant, start, step, reflectances))
+}
+
+pub fn panel_xy(
+    observer: u32,
+    illuminant: u32,
+    start: u32,
+    step: u32,
+    reflectances: &[u16],
+) -> XyAnswer {
+    let sums = sums(observer, illuminant, start, step, reflectances);
+    xy_answer(sums.and_then(coordinates))
+}
+
+pub fn panel_chart(
+    observer: u32,
+    illuminant: u32,
+    start: u32,
+    step: u32,
+    reflectances: &[u16],
+) -> ChartAnswer {
+    let sums = sums(observer, illuminant, start, step, reflectances);
+    chart_answer(sums.and_then(coordinates))
+}
+
+fn tristimulus(
+    asked_observer: u32,
+    asked_illuminant: u32,
+    start: u32,
+    step: u32,
+    reflectances: &[u16],
+) -> Result<[u32; 3], Refusal> {
+    let sums = sums(asked_observer, asked_illuminant, start, step, reflectances)?;
+    let [_, y_weights, _] = observer(asked_observer)?.functions;
+    // The white runs over 360 to 830 whatever the panel's own range.
+    let white = weigh(y_weights, illuminant(asked_illuminant)?);
+    let [x, y, z] = sums.map(|sum| nearest(10 * sum, u128::from(step) * white));
+    Ok([x?, y?, z?])
+}
+
+/// The panel's exact X, Y and Z sums, or the first of 6, 7, 1, 2, 3, 8.
+fn sums(
+    asked_observer: u32,
+    asked_illuminant: u32,
+    start: u32,
+    step: u32,
+    reflectances: &[u16],
+) -> Result<[u128; 3], Refusal> {
+    let observer = observer(asked_observer)?;
+    let illuminant = illuminant(asked_illuminant)?;
+    check_grid(start, step, reflectances.len())?;
+    check_each(reflectances, LARGEST_REFLECTANCE, REFLECTANCE)?;
+    let mut lit = line(start, step, reflectances);
+    for (t, light) in lit.iter_mut().zip(illuminant) {
+        *t *= light;
+    }
+    Ok(observer.functions.map(|weights| weigh(weights, &lit)))
+}
+
+/// The illuminant asked for, or 7.
+fn illuminant(asked: u32) -> Result<&'static Table, Refusal> {
+    match asked {
+        1 => Ok(&A),
+        2 => Ok(&D65),
+        _ => Err(ILLUMINANT),
+    }
+}

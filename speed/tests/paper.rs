@@ -1,0 +1,107 @@
+//! The paper's bench figures P1 to P10 and its report, of the straightforward implementation.
+
+use quailribbon_bench::straight::*;
+
+/// Start 380, step 1, n = 401, all 0 but these samples.
+fn light(lit: &[(usize, u32)]) -> Vec<u32> {
+    let mut samples = vec![0; 401];
+    for &(wavelength, sample) in lit {
+        samples[wavelength - 380] = sample;
+    }
+    samples
+}
+
+fn photopic_of(lit: &[(usize, u32)]) -> u32 {
+    photopic(380, 1, &light(lit)).value
+}
+
+fn chromaticity_of(lit: &[(usize, u32)]) -> (u32, u32) {
+    let answer = xy(2, 380, 1, &light(lit));
+    (answer.x, answer.y)
+}
+
+#[test]
+fn p1_all_zero() {
+    let dark = light(&[]);
+    assert_eq!(photopic(380, 1, &dark).value, 0);
+    assert_eq!(scotopic(380, 1, &dark).value, 0);
+    assert_eq!(photopic_10(380, 1, &dark).value, 0);
+    assert_eq!(mesopic(500, 380, 1, &dark).value, 0);
+    let answer = xyz(2, 380, 1, &dark);
+    assert_eq!((answer.number, answer.x, answer.y, answer.z), (0, 0, 0, 0));
+    assert_eq!(xy(2, 380, 1, &dark).number, 9);
+    let answer = chart(2, 380, 1, &dark);
+    assert_eq!((answer.number, answer.dark), (0, 1));
+}
+
+#[test]
+fn p2_the_report() {
+    let mut record = [0; 1331];
+    let written = write_record(380, 1, &light(&[(460, 1_000_000)]), &mut record);
+    assert_eq!(written.length, 1006);
+    assert_eq!(record[..3], [0x12, 0x83, 0x22]);
+    let mut text = [0; 200];
+    let length = report(&record[..1006], &mut text).length as usize;
+    let page =
+        "photopic 40980\nscotopic 963900\nX 198616\nY 40980\nZ 1140064\nx 0.14396\ny 0.02970\n";
+    assert_eq!(text[..length], *page.as_bytes());
+    assert_eq!(chart(2, 380, 1, &light(&[(460, 1)])).x, 14396.0 / 100000.0);
+}
+
+#[test]
+fn p3_an_exact_half() {
+    assert_eq!(photopic_of(&[(460, 25_000)]), 1025);
+    assert_eq!(photopic_of(&[(460, 24_999)]), 1024);
+}
+
+#[test]
+fn p4_mesopic() {
+    let samples = light(&[(460, 1_000_000)]);
+    let at = |k| mesopic(k, 380, 1, &samples);
+    assert_eq!([0, 500, 1000].map(|k| at(k).value), [963336, 305450, 40980]);
+    assert_eq!(at(1001).number, 5);
+}
+
+#[test]
+fn p5_the_straight_line() {
+    let mut samples = vec![0; 81];
+    samples[16] = 1_000_000;
+    assert_eq!(photopic(380, 5, &samples).value, 205365);
+}
+
+#[test]
+fn p6_p7_p8_mixtures() {
+    assert_eq!(photopic_of(&[(485, 1_000_000)]), 115632);
+    assert_eq!(scotopic(380, 1, &light(&[(485, 1_000_000)])).value, 1446700);
+    assert_eq!(chromaticity_of(&[(485, 1_000_000)]), (6871, 20072));
+    let both = [(460, 1_000_000), (485, 1_000_000)];
+    assert_eq!(photopic_of(&both), 156612);
+    assert_eq!(chromaticity_of(&both), (12179, 8008));
+    assert_eq!(photopic_of(&[(460, 50_000)]), 2049);
+}
+
+#[test]
+fn p9_white_panels() {
+    let white = [10_000; 471];
+    let of = |illuminant| {
+        let answer = panel_xyz(2, illuminant, 360, 1, &white);
+        [answer.x, answer.y, answer.z]
+    };
+    assert_eq!(of(1), [109850, 100000, 35585]);
+    assert_eq!(of(2), [95047, 100000, 108883]);
+}
+
+#[test]
+fn p10_refusals() {
+    let refused = |start, step, samples: &[u32]| {
+        let answer = photopic(start, step, samples);
+        (answer.number, answer.place)
+    };
+    let mut samples = light(&[]);
+    assert_eq!(refused(380, 3, &samples), (1, 0));
+    assert_eq!(refused(299, 1, &samples), (2, 0));
+    assert_eq!(refused(381, 1, &samples), (2, 0));
+    assert_eq!(refused(380, 1, &samples[..400]), (3, 0));
+    samples[7] = 1_000_001;
+    assert_eq!(refused(380, 1, &samples), (4, 7));
+}

@@ -1,0 +1,94 @@
+/* Calls every function of the C library, on the example of 460 nm and on a white panel, and on a refusal of each. */
+#include <quailribbon.h>
+#include <stdio.h>
+#include <string.h>
+
+static unsigned calls, wrong;
+
+static void expect(const char *what, int as_expected) {
+    calls++;
+    if (!as_expected) {
+        wrong++;
+        printf("boundary: %s is not as expected\n", what);
+    }
+}
+
+static uint32_t samples[401];
+static uint16_t white[471];
+
+static void lights(void) {
+    qr_reading photopic = qr_photopic(380, 1, samples, 401);
+    expect("qr_photopic", photopic.number == 0 && photopic.place == 0 && photopic.value == 40980);
+    expect("qr_scotopic", qr_scotopic(380, 1, samples, 401).value == 963900);
+    expect("qr_photopic_10", qr_photopic_10(380, 1, samples, 401).value == 87689);
+    expect("qr_mesopic", qr_mesopic(500, 380, 1, samples, 401).value == 305450);
+    qr_xyz_answer xyz = qr_xyz(2, 380, 1, samples, 401);
+    expect("qr_xyz", xyz.number == 0 && xyz.x == 198616 && xyz.y == 40980 && xyz.z == 1140064);
+    qr_xy_answer xy = qr_xy(2, 380, 1, samples, 401);
+    expect("qr_xy", xy.number == 0 && xy.x == 14396 && xy.y == 2970);
+    qr_chart_answer chart = qr_chart(2, 380, 1, samples, 401);
+    expect("qr_chart", chart.number == 0 && chart.dark == 0 && chart.x == 14396 / 100000.0 && chart.y == 2970 / 100000.0);
+    qr_figures_answer f = qr_figures(380, 1, samples, 401);
+    expect("qr_figures", f.number == 0 && f.photopic == 40980 && f.scotopic == 963900 && f.X == 198616 && f.Y == 40980 &&
+                             f.Z == 1140064 && f.dark == 0 && f.x == 14396 && f.y == 2970);
+}
+
+static void panels(void) {
+    qr_xyz_answer xyz = qr_panel_xyz(2, 2, 360, 1, white, 471);
+    expect("qr_panel_xyz", xyz.number == 0 && xyz.x == 95047 && xyz.y == 100000 && xyz.z == 108883);
+    qr_xy_answer xy = qr_panel_xy(2, 2, 360, 1, white, 471);
+    expect("qr_panel_xy", xy.number == 0 && xy.x == 31273 && xy.y == 32902);
+    qr_chart_answer chart = qr_panel_chart(2, 2, 360, 1, white, 471);
+    expect("qr_panel_chart", chart.number == 0 && chart.dark == 0 && chart.x == 31273 / 100000.0 && chart.y == 32902 / 100000.0);
+}
+
+static void records(void) {
+    uint8_t record[QR_LONGEST_RECORD], text[QR_LONGEST_REPORT];
+    uint32_t back[QR_MOST_SAMPLES];
+    qr_written written = qr_write_record(380, 1, samples, 401, record, sizeof record);
+    expect("qr_write_record", written.number == 0 && written.length == 1006 && memcmp(record, "\x12\x83\x22", 3) == 0);
+    qr_record_answer read = qr_read_record(record, written.length, back, QR_MOST_SAMPLES);
+    expect("qr_read_record", read.number == 0 && read.start == 380 && read.step == 1 && read.count == 401 &&
+                                 memcmp(back, samples, sizeof samples) == 0);
+    qr_written report = qr_report(record, written.length, text, sizeof text);
+    const char *page = "photopic 40980\nscotopic 963900\nX 198616\nY 40980\nZ 1140064\nx 0.14396\ny 0.02970\n";
+    expect("qr_report", report.number == 0 && report.length == strlen(page) && memcmp(text, page, strlen(page)) == 0);
+    report = qr_report(record, 2, text, sizeof text);
+    expect("qr_report of a refused record", report.number == 0 && report.length == 11 && memcmp(text, "refused 12\n", 11) == 0);
+}
+
+static void refusals(void) {
+    uint8_t record[QR_LONGEST_RECORD], text[1];
+    uint32_t faulty[401] = {0};
+    faulty[7] = 1000001;
+    qr_reading refused = qr_photopic(380, 1, faulty, 401);
+    expect("SAMPLE", refused.number == QR_SAMPLE && refused.place == 7 && refused.value == 0);
+    expect("STEP", qr_scotopic(380, 3, samples, 401).number == QR_STEP);
+    expect("START", qr_photopic_10(381, 1, samples, 401).number == QR_START);
+    expect("MESOPIC", qr_mesopic(1001, 380, 1, samples, 401).number == QR_MESOPIC);
+    expect("OBSERVER", qr_xyz(3, 380, 1, samples, 401).number == QR_OBSERVER);
+    expect("COUNT", qr_figures(380, 1, samples, 400).number == QR_COUNT);
+    samples[80] = 0;
+    expect("DARK", qr_xy(2, 380, 1, samples, 401).number == QR_DARK);
+    qr_chart_answer dark = qr_chart(2, 380, 1, samples, 401);
+    expect("a dark chart", dark.number == 0 && dark.dark == 1 && dark.x == 0.0 && dark.y == 0.0);
+    expect("dark figures", qr_figures(380, 1, samples, 401).dark == 1);
+    expect("ILLUMINANT", qr_panel_xyz(2, 3, 360, 1, white, 471).number == QR_ILLUMINANT);
+    white[470] = 10001;
+    qr_xy_answer panel = qr_panel_xy(2, 1, 360, 1, white, 471);
+    expect("REFLECTANCE", panel.number == QR_REFLECTANCE && panel.place == 470);
+    expect("ROOM", qr_write_record(380, 1, samples, 401, record, 1005).number == QR_ROOM);
+    expect("LENGTH", qr_read_record(record, 2, faulty, 401).number == QR_LENGTH);
+    expect("ROOM of a report", qr_report(record, 0, text, sizeof text).number == QR_ROOM);
+}
+
+int main(void) {
+    samples[80] = 1000000;
+    for (int i = 0; i < 471; i++) white[i] = 10000;
+    lights();
+    panels();
+    records();
+    refusals();
+    printf("boundary: %u calls, %u not as expected\n", calls, wrong);
+    return wrong != 0;
+}
