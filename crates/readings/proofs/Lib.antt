@@ -2,6 +2,5 @@
 pub mod Small
 pub mod LightSums
 pub mod Together
-pub mod Mixed
 pub mod Instances
 pub mod Unlit
