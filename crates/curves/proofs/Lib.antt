@@ -1,5 +1,8 @@
 -- Laws of the tables and of weighted rows.
 pub mod Rows
+pub mod Filled
+pub mod Product
+pub mod Split
 pub mod Halves
 pub mod Largest
 pub mod Sums

@@ -60,6 +60,11 @@ weighted-split B (suc n) v t =
     let e : (v n / B * B + v n % B) * t n ≡ v n * t n = ap (λ (x : ℕ). x * t n) (div-add-mod' (v n) B) in
     omega arith
 
+pub weighted-ext :
+    (n : ℕ) (v t u : ℕ → ℕ) → ((k : ℕ) → k < n → t k ≡ u k) → weighted n v t ≡ weighted n v u
+unfolding weighted
+weighted-ext n v t u e = total-ext n (λ k. v k * t k) (λ k. v k * u k) (λ k h. ap (λ (x : ℕ). v k * x) (e k h))
+
 -- weight and line may change places
 weighted-swap : (n : ℕ) (v t : ℕ → ℕ) → weighted n v t ≡ weighted n t v
 unfolding weighted

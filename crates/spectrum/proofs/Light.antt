@@ -1,5 +1,5 @@
 -- What an accepted light's row is: small enough to be weighed, and W when it is.
-use mathlib.Core.Path.{_≡_, refl, ap}
+use mathlib.Core.Path.{_≡_, refl}
 use mathlib.Core.List.{List}
 use Prim.Native.Nat.{ℕ, _+_, _*_, _≤_}
 use native.Mathlib.Nat.{le-trans, mul-le-mul-right}
@@ -11,7 +11,7 @@ use Rattle.grid.specs.Check.{gridCheck, samplesCheck, unless, Within}
 use Rattle.grid.proofs.Limit.{fine-within, within-row}
 use Rattle.grid.proofs.Accepted.{OnGrid, accepted}
 use Rattle.mixing.specs.Sum.{weighted}
-use Rattle.mixing.proofs.Sum.{total-ext}
+use Rattle.mixing.proofs.Sum.{weighted-ext}
 use Rattle.curves.specs.Curves.{entryOf, Row}
 use Rattle.spectrum.specs.Light.{lightCheck}
 use Rattle.spectrum.specs.Line.{T, listed, rowOf, W}
@@ -50,7 +50,6 @@ module _ (a s : ℕ) (xs : List ℕ) (fine : lightCheck a s xs ≡ Fine) where
 
 -- weighed, the row gives W
 pub row-weighed : (v : ℕ → ℕ) (a s : ℕ) (xs : List ℕ) → weighted 471 v (entryOf (rowOf a s xs)) ≡ W v a s xs
-unfolding W weighted rowOf
+unfolding W rowOf
 row-weighed v a s xs =
-    total-ext 471 (λ k. v k * getD (rowOf a s xs) k 0) (λ k. v k * T a s xs (360 + k))
-    (λ k h. ap (λ x. v k * x) (getD-listed 471 (λ q. T a s xs (360 + q)) k h))
+    weighted-ext 471 v (entryOf (rowOf a s xs)) (λ k. T a s xs (360 + k)) (getD-listed 471 (λ q. T a s xs (360 + q)))
