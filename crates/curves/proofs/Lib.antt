@@ -3,6 +3,7 @@ pub mod Rows
 pub mod Filled
 pub mod Product
 pub mod Split
+pub mod Illuminants
 pub mod Halves
 pub mod Largest
 pub mod Sums

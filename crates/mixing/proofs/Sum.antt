@@ -66,7 +66,7 @@ unfolding weighted
 weighted-ext n v t u e = total-ext n (λ k. v k * t k) (λ k. v k * u k) (λ k h. ap (λ (x : ℕ). v k * x) (e k h))
 
 -- weight and line may change places
-weighted-swap : (n : ℕ) (v t : ℕ → ℕ) → weighted n v t ≡ weighted n t v
+pub weighted-swap : (n : ℕ) (v t : ℕ → ℕ) → weighted n v t ≡ weighted n t v
 unfolding weighted
 weighted-swap n v t = total-ext n (λ k. v k * t k) (λ k. t k * v k) (λ k h. mul-comm (v k) (t k))
 

@@ -1,16 +1,13 @@
--- The table that is lent is the illuminant's, and its largest entry is computed over the whole of it.
-use lib.Dec.{lit≤}
-use native.Mathlib.Nat.{le-trans}
+-- The table that is lent is the illuminant's.
 use Rattle.curves.specs.Tables.{illuminantA}
 use Rattle.curves.specs.Curves.{table}
-use Rattle.curves.specs.Columns.{largest}
-use Rattle.curves.proofs.Largest.{at-most-largest}
+use Rattle.curves.proofs.Illuminants.{a-small}
 use Rattle.curves.proofs.lit.lit_by_a.Statement.{statement}
 use Rattle.curves.proofs.lit.lit_by_a.Tie as tie
 
 lit-by-requires : tie.Need-lit-by-requires
-unfolding illuminantA largest
-lit-by-requires c κs = ((λ k. le-trans (at-most-largest illuminantA k) (lit≤ tt)), c .before .pre)
+unfolding illuminantA
+lit-by-requires c κs = (a-small, c .before .pre)
 
 returns : tie.Need-returns
 unfolding table illuminantA

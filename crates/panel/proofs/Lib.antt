@@ -1,0 +1,5 @@
+-- Laws of panels.
+pub mod Computed
+pub mod Surface
+pub mod Sized
+pub mod Weighed
