@@ -3,3 +3,4 @@ pub mod Computed
 pub mod Surface
 pub mod Sized
 pub mod Weighed
+pub mod Worked

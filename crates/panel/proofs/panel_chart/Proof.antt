@@ -1,44 +1,45 @@
+-- The chart's point is that of the coordinates.
+use mathlib.Core.Path.{_≡_, _∙_, sym}
+use Rattle.grid.specs.declared.Check.the-variants.{Fine}
+use Rattle.panel.specs.Panel.{panelCheck, panelChartOf}
+use Rattle.panel.proofs.Worked.{total-small}
 use borrow.Author.Needs.{needs}
 use Rattle.panel.proofs.panel_chart.Statement.{statement}
 use Rattle.panel.proofs.panel_chart.Tie as tie
-use Rattle.panel.proofs.panel_chart.Reads as reads
-use Rattle.panel.proofs.panel_chart.Lts as lts
-use Rattle.answers.proofs.work.on_chart.Reads as on-chart-reads
-use Rattle.answers.proofs.work.xy_from.Reads as xy-from-reads
-use Rattle.panel.proofs.check_panel.Reads as check-panel-reads
-use Rattle.panel.proofs.sums.panel_sums.Reads as panel-sums-reads
 
--- src/lib.rt:70:9
+-- all checks are fine in this arm
+fine : (c : tie.After-enum-told) → panelCheck (c .before .before .before .before .args .observer) (c .before .before .before .before .args .illuminant) (c .before .before .before .before .args .start) (c .before .before .before .before .args .step) (c .before .before .before .before .args .reflectances .now) ≡ Fine
+fine c = sym (c .before .before .check-panel .ensures) ∙ c .enum-told .given .1
+
 check-panel-requires : tie.Need-check-panel-requires
 check-panel-requires c κs = search needs
 
--- src/lib.rt:72:60
 enum-told : tie.Need-enum-told
 enum-told c = search needs
 
--- src/lib.rt:72:60
 panel-sums-requires : tie.Need-panel-sums-requires
-panel-sums-requires c κs = ?
+panel-sums-requires c κs = fine c
 
--- src/lib.rt:72:52
 xy-from-requires : tie.Need-xy-from-requires
-xy-from-requires c κs = ?
+xy-from-requires c κs =
+    let s = c .before .before .before .before .before .args in
+    total-small (s .observer) (s .illuminant) (s .start) (s .step) (s .reflectances .now) (c .panel-sums .result) (c .panel-sums .ensures) (fine (c .before))
 
--- src/lib.rt:72:43
 on-chart-requires : tie.Need-on-chart-requires
 on-chart-requires c κs = search needs
 
--- src/lib.rt:79:24
 enum-known-check : tie.Need-enum-known-check
 enum-known-check c = search needs
 
--- src/lib.rt:61:1
 returns : tie.Need-returns
-returns c = ?
+unfolding panelChartOf
+returns c =
+    let sums = c .before .before .panel-sums .ensures in
+    rw (c .on-chart .ensures, c .before .xy-from .ensures, sums .x, sums .y, sums .z, fine (c .before .before .before))
 
--- src/lib.rt:61:1
 returns-2 : tie.Need-returns-2
-returns-2 c = ?
+unfolding panelChartOf
+returns-2 c = rw (sym (c .before .before .before .check-panel .ensures) ∙ c .before .check .given .1)
 
 pub panel-chart-spec : {M : Type 1} → statement M
 panel-chart-spec =
