@@ -4,3 +4,5 @@ pub mod Surface
 pub mod Sized
 pub mod Weighed
 pub mod Worked
+pub mod Given
+pub mod Full
