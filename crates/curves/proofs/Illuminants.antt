@@ -1,6 +1,5 @@
 -- What a curve's weights under an illuminant can add up to.
-use mathlib.Core.List.{List}
-use Prim.Native.Nat.{ℕ, _*_, _≤_}
+use Prim.Native.Nat.{_*_, _≤_}
 use native.Mathlib.Nat.{le-refl, le-trans, mul-le-mul-left}
 use lib.Dec.{lit≤}
 use Rattle.mixing.specs.Sum.{total, weighted}

@@ -1,7 +1,6 @@
 // A row of reflected light under an illuminant: the product at each place, split at 2^21 into two rows that can be weighed.
 use crate::tables::ILLUMINANT_A;
 use crate::tables::ILLUMINANT_D65;
-ghost use Prim.Native.Nat.{ℕ, _≤_};
 ghost use Rattle.curves.specs.declared.Curve.the-variants.{IlluminantA, IlluminantD65};
 ghost use Rattle.curves.specs.Curves.{table};
 ghost use Rattle.curves.specs.Split.{Reflected, Illuminant, SplitOf};

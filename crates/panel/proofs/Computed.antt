@@ -1,14 +1,13 @@
 -- The four white sums, computed over the whole tables, and bounds of a curve's sum under either illuminant.
 use mathlib.Core.Path.{_≡_, refl}
 use mathlib.Core.Bool.{Bool, true, false, cond}
-use Prim.Native.Nat.{ℕ, _*_, _≤_}
+use Prim.Native.Nat.{_≤_}
 use lib.Dec.{lit≤}
 use Rattle.mixing.specs.Sum.{total}
 use Rattle.curves.specs.declared.Curve.{Curve}
 use Rattle.curves.specs.declared.Curve.the-variants.{YBar, YBar10, IlluminantA, IlluminantD65}
 use Rattle.curves.specs.Tables.{yBar, yBar10, illuminantA, illuminantD65}
 use Rattle.curves.specs.Curves.{table}
-use Rattle.curves.specs.Split.{Illuminant}
 use Rattle.curves.proofs.Illuminants.{a-small, d65-small, lit-sum}
 use Rattle.panel.specs.Panel.{litBy}
 

@@ -2,14 +2,12 @@
 use mathlib.Core.Path.{_≡_, refl, sym, subst, _∙_}
 use mathlib.Core.Bool.{true}
 use mathlib.Core.Logic.{⊎-elim}
-use mathlib.Core.List.{List}
-use Prim.Native.Nat.{ℕ, _+_, _*_, _<_}
+use Prim.Native.Nat.{ℕ, _*_}
 use native.Mathlib.Omega.{arith}
-use lib.ListN.{getD, replicate, getD-replicate}
+use lib.ListN.{replicate, getD-replicate}
 use Rattle.grid.specs.declared.Check.the-variants.{Fine}
 use Rattle.grid.specs.Check.{isObserver, isStep, gridCheck, limitCheck}
 use Rattle.grid.proofs.Accepted.{step-cases}
-use Rattle.mixing.specs.Nearest.{nearest}
 use Rattle.mixing.specs.Sum.{total, weighted}
 use Rattle.mixing.proofs.Nearest.{nearest-times}
 use Rattle.mixing.proofs.Sum.{weighted-ext, weighted-swap, total-mul}

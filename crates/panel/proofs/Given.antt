@@ -1,7 +1,7 @@
 -- An accepted panel's X, Y, Z fit, so they are given; and they keep to the order of the reflectances.
 use mathlib.Core.Path.{_≡_, refl, sym}
 use mathlib.Core.List.{List}
-use Prim.Native.Nat.{ℕ, _+_, _*_, _≤_, _<_}
+use Prim.Native.Nat.{ℕ, _*_, _≤_, _<_}
 use native.Mathlib.Nat.{mul-pos, mul-le-mul-left}
 use native.Mathlib.Omega.{arith}
 use lib.ListN.{length}

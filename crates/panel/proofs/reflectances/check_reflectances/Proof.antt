@@ -1,6 +1,5 @@
 -- The grid's check comes first, and then that of the widened reflectances, which are the reflectances.
 use mathlib.Core.Path.{_≡_, sym, _∙_, ap}
-use native.Mathlib.Omega.{arith}
 use lib.ListN.{length}
 use Rattle.grid.specs.declared.Check.the-variants.{Fine}
 use Rattle.grid.specs.Check.{gridCheck}

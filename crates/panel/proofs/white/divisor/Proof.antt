@@ -1,9 +1,4 @@
 -- The product passes no 96 bits.
-use mathlib.Core.Path.{_≡_, sym, _∙_}
-use Prim.Native.Nat.{_+_, _*_, _^_, _≤_, _<_}
-use native.Mathlib.Nat.{mod-eq-of-lt, mul-le-mul}
-use native.Mathlib.Omega.{arith}
-use Rattle.panel.specs.Panel.{whiteSum}
 use Rattle.panel.proofs.Sized.{divisor-kept}
 use borrow.Author.Needs.{needs}
 use Rattle.panel.proofs.white.divisor.Statement.{statement}
