@@ -2,9 +2,9 @@
 use mathlib.Core.Path.{_≡_, refl}
 use mathlib.Core.Bool.{Bool, true, false, cond, _&&_}
 use mathlib.Core.List.{List, [], _∷_}
-use Prim.Native.Nat.{ℕ, _+_, _*_, _<_}
+use Prim.Native.Nat.{ℕ, _+_, _*_, _≤_, _<_}
 use native.Mathlib.Omega.{arith}
-use borrow.Author.Tests.{eqb-true, eqb-false, ne-eqb}
+use borrow.Author.Tests.{eqb-true, eqb-false, ne-eqb, le-leb}
 use lib.Dec.{eqb}
 use Rattle.grid.specs.Check.{refusal}
 use Rattle.mixing.specs.Nearest.{nearest}
@@ -41,6 +41,14 @@ module _ (x y z d : ℕ) where
           saidXyz (cond b (XyzAnswer.Value three) (XyzAnswer.Refused (refusal 15 0))) .values ≡ nearest x d ∷ nearest y d ∷ nearest z d ∷ []
       go true e = refl
       go false e = absurd (omega arith)
+
+  -- three quotients that fit are given
+  pub xyz-given :
+      nearest x d ≤ 4294967295 → nearest y d ≤ 4294967295 → nearest z d ≤ 4294967295 →
+      xyzFrom x y z d ≡ XyzAnswer.Value (record { x = nearest x d; y = nearest y d; z = nearest z d })
+  unfolding xyzFrom
+  xyz-given p q r =
+      rw (le-leb (nearest x d) 4294967295 p, le-leb (nearest y d) 4294967295 q, le-leb (nearest z d) 4294967295 r)
 
 module _ (x y z : ℕ) where
   -- coordinates that are given have a divisor

@@ -1,6 +1,7 @@
 -- The paper's number, place and values for each case of each answer.
 use mathlib.Core.List.{List, [], _∷_}
 use Prim.Native.Nat.{ℕ}
+use lib.ListN.{getD}
 use lib.Ieee.{Float}
 use Rattle.grid.specs.declared.Refusal.{Refusal}
 use Rattle.answers.specs.declared.Reading.{Reading}
@@ -15,6 +16,10 @@ pub record Said : Type 0 where
   pub place : ℕ
   pub values : List ℕ
   pub floats : List Float
+
+-- the value at a place, 0 where there is none
+abbrev pub value : Said → ℕ → ℕ
+value said i = getD (said .values) i 0
 
 abbrev pub given : List ℕ → List Float → Said
 given vs fs = record { number = 0; place = 0; values = vs; floats = fs }

@@ -1,4 +1,5 @@
 // The answers of readings and panels, each a value or a refusal.
+pub mod sums;
 pub mod work;
 
 use grid::Refusal;

@@ -11,7 +11,7 @@ use Rattle.curves.specs.declared.Curve.{Curve}
 use Rattle.curves.specs.declared.Curve.the-variants.{XBar, YBar, ZBar, XBar10, YBar10, ZBar10, VPrime, IlluminantA, IlluminantD65}
 
 -- computed over each whole table
-curve-sum : (c : Curve) → total 471 (weightOf c) ≤ 2000000000000000
+pub curve-sum : (c : Curve) → total 471 (weightOf c) ≤ 2000000000000000
 unfolding total table xBar yBar zBar xBar10 yBar10 zBar10 vPrime illuminantA illuminantD65
 curve-sum XBar = lit≤ tt
 curve-sum YBar = lit≤ tt

@@ -1,4 +1,5 @@
 // The CIE tables from 360 to 830 nm: what stands at a place, and the weighted sum of a row of light.
+pub mod lit;
 mod tables;
 pub mod weigh;
 

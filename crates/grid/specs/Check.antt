@@ -36,6 +36,10 @@ lastOf a s n = a + s * (n - 1)
 abbrev pub isCount : ℕ → ℕ → ℕ → Bool
 isCount a s n = ltb 0 n && leb 780 (lastOf a s n) && leb (lastOf a s n) 830
 
+-- the observer is 2 or 10
+abbrev pub isObserver : ℕ → Bool
+isObserver o = eqb o 2 || eqb o 10
+
 -- STEP, START, COUNT
 unfoldable pub gridCheck : ℕ → ℕ → ℕ → Check
 gridCheck a s n = require (isStep s) 1 (require (isStart a) 2 (require (isCount a s n) 3 Fine))

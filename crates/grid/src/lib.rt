@@ -1,7 +1,7 @@
 // Refusals, and the checks that every spectrum, panel and record shares: step, start, count, and the limit of a sample.
 ghost use mathlib.Core.Path.{_≡_};
 ghost use mathlib.Core.Bool.{true};
-ghost use Rattle.grid.specs.Check.{gridCheck, isStep, isStart, isCount, refusal, samplesCheck, Within};
+ghost use Rattle.grid.specs.Check.{gridCheck, isStep, isStart, isCount, isObserver, refusal, limitCheck, samplesCheck, Within};
 
 // A refusal's number, and the place of the first faulty sample for 4 and 8 (else 0).
 pub struct Refusal {
@@ -77,23 +77,39 @@ fn is_count(start: u32, step: u32, count: usize) -> bool
     last <= 830
 }
 
+pub fn is_observer(observer: u32) -> bool
+    ensures { λ r. ⌜ r ≡ isObserver observer ⌝ }
+{
+    if observer == 2 {
+        return true;
+    }
+    observer == 10
+}
+
 // SAMPLE at the first sample above 1,000,000.
 pub fn check_samples(samples: &[u32]) -> Check
     ensures { λ r. ⌜ r ≡ samplesCheck (now (samples .entry)) ⌝ }
 {
-    if no_fault(samples) {
+    check_limit(4, 1000000, samples)
+}
+
+// The refusal with this number at the first sample above the limit.
+pub fn check_limit(number: u32, limit: u32, samples: &[u32]) -> Check
+    ensures { λ r. ⌜ r ≡ limitCheck number limit 0 (now (samples .entry)) ⌝ }
+{
+    if no_fault(limit, samples) {
         return Check::Fine;
     }
-    first_fault(samples)
+    first_fault(number, limit, samples)
 }
 
 // Whether all samples are within the limit: a pass with no way out, which the machine takes several at a time.
-fn no_fault(samples: &[u32]) -> bool
-    ensures { λ r. ⌜ (r ≡ true → Within 1000000 (now (samples .entry))) ⌝ }
+fn no_fault(limit: u32, samples: &[u32]) -> bool
+    ensures { λ r. ⌜ (r ≡ true → Within limit (now (samples .entry))) ⌝ }
 {
     let mut fine = true;
     for k in 0..samples.len() {
-        if 1000000 < samples[k] {
+        if limit < samples[k] {
             fine = false;
         }
     }
@@ -101,15 +117,12 @@ fn no_fault(samples: &[u32]) -> bool
 }
 
 // The place is looked for only where there is a fault.
-fn first_fault(samples: &[u32]) -> Check
-    ensures { λ r. ⌜ r ≡ samplesCheck (now (samples .entry)) ⌝ }
+fn first_fault(number: u32, limit: u32, samples: &[u32]) -> Check
+    ensures { λ r. ⌜ r ≡ limitCheck number limit 0 (now (samples .entry)) ⌝ }
 {
     for k in 0..samples.len() {
-        if 1000000 < samples[k] {
-            return Check::Refused(Refusal {
-                number: 4,
-                place: k,
-            });
+        if limit < samples[k] {
+            return Check::Refused(Refusal { number, place: k });
         }
     }
     Check::Fine

@@ -2,7 +2,7 @@
 use mathlib.Core.Path.{_≡_, _∙_, sym, ap}
 use mathlib.Core.Logic.{_↔_}
 use Prim.Native.Nat.{ℕ, zero, suc, _+_, _*_, _/_, _≤_, _<_, zero-le}
-use native.Mathlib.Nat.{le-div-iff-mul-le, div-lt-iff-lt-mul, div-div-eq-div-mul, div-eq-of-eq-mul-left, mul-add-div, div-zero}
+use native.Mathlib.Nat.{le-refl, le-div-iff-mul-le, div-lt-iff-lt-mul, div-div-eq-div-mul, div-eq-of-eq-mul-left, mul-add-div, div-zero}
 use native.Mathlib.Omega.{arith}
 use Rattle.mixing.specs.Nearest.{nearest}
 
@@ -47,3 +47,10 @@ nearest-bound c n (suc d) h =
 -- nothing over anything is nothing
 pub nearest-none : (d : ℕ) → nearest 0 d ≡ 0
 nearest-none d = let h = nearest-bound 0 0 d zero-le in omega arith
+
+-- a whole number of divisors, over one, is that number
+pub nearest-times : (c d : ℕ) → 0 < d → nearest (c * d) d ≡ c
+nearest-times c d pos =
+    let high = nearest-bound c (c * d) d (le-refl (c * d)) in
+    let low = le-nearest (c * d) d pos c .1 (omega arith) in
+    omega arith

@@ -59,3 +59,19 @@ weighted-split B (suc n) v t =
     let ih : weighted n (λ k. v k / B) t * B + weighted n (λ k. v k % B) t ≡ weighted n v t = weighted-split B n v t in
     let e : (v n / B * B + v n % B) * t n ≡ v n * t n = ap (λ (x : ℕ). x * t n) (div-add-mod' (v n) B) in
     omega arith
+
+pub weighted-ext :
+    (n : ℕ) (v t u : ℕ → ℕ) → ((k : ℕ) → k < n → t k ≡ u k) → weighted n v t ≡ weighted n v u
+unfolding weighted
+weighted-ext n v t u e = total-ext n (λ k. v k * t k) (λ k. v k * u k) (λ k h. ap (λ (x : ℕ). v k * x) (e k h))
+
+-- weight and line may change places
+pub weighted-swap : (n : ℕ) (v t : ℕ → ℕ) → weighted n v t ≡ weighted n t v
+unfolding weighted
+weighted-swap n v t = total-ext n (λ k. v k * t k) (λ k. t k * v k) (λ k h. mul-comm (v k) (t k))
+
+-- so a line that is split at a base B adds up to the whole too
+pub line-split :
+    (B n : ℕ) (v t : ℕ → ℕ) → weighted n v (λ k. t k / B) * B + weighted n v (λ k. t k % B) ≡ weighted n v t
+line-split B n v t =
+    rw (weighted-swap n v (λ k. t k / B), weighted-swap n v (λ k. t k % B), weighted-swap n v t) (weighted-split B n t v)

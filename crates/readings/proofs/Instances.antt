@@ -9,7 +9,7 @@ use borrow.Author.Tests.{leb-true}
 use lib.ListN.{length, getD}
 use lib.Dec.{leb}
 use Rattle.grid.specs.declared.Check.the-variants.{Fine, Refused}
-use Rattle.grid.specs.Check.{gridCheck, samplesCheck}
+use Rattle.grid.specs.Check.{gridCheck, samplesCheck, isObserver}
 use Rattle.grid.proofs.Limit.{within-fine}
 use Rattle.mixing.specs.Mixture.{mix, Linear}
 use Rattle.mixing.proofs.Mixture.{length-mix, getD-mix, linear-plus, linear-times}
@@ -20,9 +20,10 @@ use Rattle.spectrum.specs.Light.{lightCheck}
 use Rattle.spectrum.proofs.Measured.{W-linear}
 use Rattle.spectrum.proofs.Light.{grid-fine, on-grid}
 use Rattle.answers.specs.Said.{saidReading, saidXyz, saidXy}
-use Rattle.readings.specs.Readings.{weighed, illuminanceOf, mesopicOf, mesopicSum, mesopicDivisor, isObserver, ofObserver, xSum, ySum, zSum, xyzOf, xyOf}
+use Rattle.answers.specs.Sums.{ofObserver}
+use Rattle.answers.proofs.Mixed.{reading-unit, reading-order, xyz-unit, xyz-order, xy-between, xy-one-dark}
+use Rattle.readings.specs.Readings.{weighed, illuminanceOf, mesopicOf, mesopicSum, mesopicDivisor, xSum, ySum, zSum, xyzOf, xyOf}
 use Rattle.readings.specs.Promises.{Mixable, OneUnit, InOrder, BothLit, OneDark}
-use Rattle.readings.proofs.Mixed.{reading-unit, reading-order, xyz-unit, xyz-order, xy-between, xy-one-dark}
 
 pub accepted : (a s : ℕ) (xs ys : List ℕ) → Mixable a s xs ys → lightCheck a s (mix xs ys) ≡ Fine
 unfolding lightCheck

@@ -2,7 +2,6 @@
 pub mod Small
 pub mod LightSums
 pub mod Together
-pub mod Mixed
 pub mod Instances
 pub mod Unlit
 pub mod Places

@@ -5,7 +5,8 @@ use Prim.Native.Nat.{ℕ}
 use Rattle.spectrum.specs.Line.{rowOf}
 use Rattle.spectrum.proofs.Light.{row-weighed}
 use Rattle.answers.specs.declared.work.Sums.{Sums}
-use Rattle.readings.specs.Colour.{RowSums, LightSums}
+use Rattle.answers.specs.Sums.{RowSums}
+use Rattle.readings.specs.Colour.{LightSums}
 
 pub light-sums : (o a s : ℕ) (xs : List ℕ) (sums : Sums) → RowSums o (rowOf a s xs) sums → LightSums o a s xs sums
 light-sums o a s xs sums r = record {

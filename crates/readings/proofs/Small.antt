@@ -5,7 +5,7 @@ use Prim.Native.Nat.{ℕ, _+_, _*_, _%_, _^_, _≤_, _<_}
 use native.Mathlib.Nat.{mod-eq-of-lt, mul-le-mul}
 use native.Mathlib.Omega.{arith}
 use Rattle.grid.specs.declared.Check.the-variants.{Fine}
-use Rattle.grid.specs.Check.{refusal}
+use Rattle.grid.specs.Check.{refusal, isObserver}
 use Rattle.grid.proofs.Limit.{passed}
 use Rattle.curves.specs.declared.Curve.{Curve}
 use Rattle.curves.specs.declared.Curve.the-variants.{XBar, YBar, ZBar, XBar10, YBar10, ZBar10}
@@ -13,7 +13,8 @@ use Rattle.curves.proofs.Sums.{light-sum}
 use Rattle.spectrum.specs.Light.{lightCheck}
 use Rattle.spectrum.specs.Line.{rowOf}
 use Rattle.spectrum.proofs.Light.{row-small, row-weighed}
-use Rattle.readings.specs.Readings.{weighed, isObserver, colourCheck, ofObserver, xSum, ySum, zSum}
+use Rattle.answers.specs.Sums.{ofObserver}
+use Rattle.readings.specs.Readings.{weighed, colourCheck, xSum, ySum, zSum}
 
 -- a colour that is accepted is one of an accepted light
 pub colour-fine : (o a s : ℕ) (xs : List ℕ) → colourCheck o a s xs ≡ Fine → lightCheck a s xs ≡ Fine

@@ -8,7 +8,7 @@ use borrow.Author.Tests.{le-leb}
 use lib.ListN.{getD, replicate, length}
 use lib.Dec.{leb}
 use Rattle.grid.specs.declared.Check.the-variants.{Fine}
-use Rattle.grid.specs.Check.{refusal}
+use Rattle.grid.specs.Check.{refusal, isObserver}
 use Rattle.mixing.specs.Sum.{weighted}
 use Rattle.mixing.proofs.Sum.{total-none}
 use Rattle.mixing.proofs.Nearest.{nearest-none}
@@ -23,7 +23,8 @@ use Rattle.answers.specs.declared.XyzAnswer.{XyzAnswer}
 use Rattle.answers.specs.declared.XyAnswer.{XyAnswer}
 use Rattle.answers.specs.declared.ChartAnswer.{ChartAnswer}
 use Rattle.answers.specs.Worked.{readingFrom, xyzFrom, xyFrom, onChart}
-use Rattle.readings.specs.Readings.{weighed, illuminanceOf, mesopicOf, isObserver, ofObserver, xyzOf, xyOf, chartOf}
+use Rattle.answers.specs.Sums.{ofObserver}
+use Rattle.readings.specs.Readings.{weighed, illuminanceOf, mesopicOf, xyzOf, xyOf, chartOf}
 use Rattle.readings.specs.Promises.{Unlit}
 
 getD-zeros : (n i : ℕ) → _≡_ {A = ℕ} (getD (replicate n 0) i 0) 0

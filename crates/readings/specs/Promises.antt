@@ -3,9 +3,9 @@ use mathlib.Core.Path.{_≡_}
 use mathlib.Core.Bool.{true}
 use mathlib.Core.List.{List}
 use Prim.Native.Nat.{ℕ, _+_, _*_, _≤_}
-use lib.ListN.{length, getD, replicate}
+use lib.ListN.{length, replicate}
 use Rattle.grid.specs.declared.Check.the-variants.{Fine}
-use Rattle.grid.specs.Check.{Within, refusal}
+use Rattle.grid.specs.Check.{Within, refusal, isObserver}
 use Rattle.mixing.specs.Mixture.{mix, Below}
 use Rattle.mixing.specs.Promise.{Between}
 use Rattle.mixing.specs.Promise.{Within as Differ}
@@ -18,15 +18,12 @@ use Rattle.answers.specs.declared.Reading.{Reading}
 use Rattle.answers.specs.declared.XyzAnswer.{XyzAnswer}
 use Rattle.answers.specs.declared.XyAnswer.{XyAnswer}
 use Rattle.answers.specs.declared.ChartAnswer.{ChartAnswer}
-use Rattle.answers.specs.Said.{Said, saidReading, saidXyz, saidXy}
-use Rattle.readings.specs.Readings.{photopicOf, scotopicOf, photopic10Of, mesopicOf, isObserver, xyzOf, xyOf, chartOf}
+use Rattle.answers.specs.Said.{Said, value, saidReading, saidXyz, saidXy}
+use Rattle.readings.specs.Readings.{photopicOf, scotopicOf, photopic10Of, mesopicOf, xyzOf, xyOf, chartOf}
 
 -- an answer by start, step and samples, as the paper's number, place and values
 abbrev pub Answer : Type 0
 Answer = ℕ → ℕ → List ℕ → Said
-
-abbrev pub value : Said → ℕ → ℕ
-value said i = getD (said .values) i 0
 
 -- two accepted spectra on one grid, whose samples added place by place stay within the limit
 pub record Mixable (a s : ℕ) (xs ys : List ℕ) : Type 0 where

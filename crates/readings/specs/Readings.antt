@@ -1,10 +1,9 @@
 -- Every reading of a light, as the paper's table has it.
-use mathlib.Core.Bool.{Bool, cond, _||_}
 use mathlib.Core.List.{List}
 use Prim.Native.Nat.{ℕ, _+_, _*_, _-_, _^_}
-use lib.Dec.{leb, eqb}
+use lib.Dec.{leb}
 use Rattle.grid.specs.declared.Check.{Check}
-use Rattle.grid.specs.Check.{unless, require}
+use Rattle.grid.specs.Check.{unless, require, isObserver}
 use Rattle.curves.specs.declared.Curve.{Curve}
 use Rattle.curves.specs.declared.Curve.the-variants.{XBar, YBar, ZBar, XBar10, YBar10, ZBar10, VPrime}
 use Rattle.curves.specs.Curves.{weightOf}
@@ -15,6 +14,7 @@ use Rattle.answers.specs.declared.XyzAnswer.{XyzAnswer}
 use Rattle.answers.specs.declared.XyAnswer.{XyAnswer}
 use Rattle.answers.specs.declared.ChartAnswer.{ChartAnswer}
 use Rattle.answers.specs.Worked.{readingFrom, xyzFrom, xyFrom, onChart}
+use Rattle.answers.specs.Sums.{ofObserver}
 use Rattle.readings.specs.declared.report.ReportFigures.{ReportFigures}
 use Rattle.readings.specs.declared.report.FiguresAnswer.{FiguresAnswer}
 
@@ -52,16 +52,9 @@ unfoldable pub mesopicOf : ℕ → ℕ → ℕ → List ℕ → Reading
 mesopicOf k a s xs =
     unless (mesopicCheck k a s xs) Reading.Refused (readingFrom (mesopicSum k a s xs) (mesopicDivisor k s))
 
-abbrev pub isObserver : ℕ → Bool
-isObserver o = eqb o 2 || eqb o 10
-
 -- OBSERVER: neither 2 nor 10
 abbrev pub colourCheck : ℕ → ℕ → ℕ → List ℕ → Check
 colourCheck o a s xs = require (isObserver o) 6 (lightCheck a s xs)
-
--- what observer 10 has in place of what observer 2 has
-abbrev pub ofObserver : {A : Type 0} → ℕ → A → A → A
-ofObserver o two ten = cond (eqb o 10) ten two
 
 abbrev pub xSum : ℕ → ℕ → ℕ → List ℕ → ℕ
 xSum o a s xs = weighed (ofObserver o XBar XBar10) a s xs

@@ -3,24 +3,22 @@ use crate::scale;
 use answers::ChartAnswer;
 use answers::XyAnswer;
 use answers::XyzAnswer;
+use answers::sums::row_sums;
 use answers::work::Sums;
 use answers::work::on_chart;
 use answers::work::xy_from;
 use answers::work::xyz_from;
-use curves::Curve;
-use curves::weigh::weigh;
 use grid::Check;
+use grid::is_observer;
 use grid::refused;
 use spectrum::check_light;
 use spectrum::line::row_of;
 ghost use mathlib.Core.Path.{_≡_};
-ghost use mathlib.Core.Bool.{_||_};
-ghost use lib.Dec.{eqb};
 ghost use Rattle.grid.specs.declared.Check.the-variants.{Fine};
-ghost use Rattle.curves.specs.Curves.{Row};
 ghost use Rattle.spectrum.specs.Light.{lightCheck};
-ghost use Rattle.readings.specs.Readings.{colourCheck, isObserver, ofObserver, xyzOf, xyOf, chartOf};
-ghost use Rattle.readings.specs.Colour.{RowSums, LightSums};
+ghost use Rattle.answers.specs.Sums.{ofObserver};
+ghost use Rattle.readings.specs.Readings.{colourCheck, xyzOf, xyOf, chartOf};
+ghost use Rattle.readings.specs.Colour.{LightSums};
 
 // X, Y and Z in millilux.
 pub fn xyz(observer: u32, start: u32, step: u32, samples: &[u32]) -> XyzAnswer
@@ -75,15 +73,6 @@ fn check_colour(observer: u32, start: u32, step: u32, samples: &[u32]) -> Check
     }
 }
 
-fn is_observer(observer: u32) -> bool
-    ensures { λ r. ⌜ r ≡ isObserver observer ⌝ }
-{
-    if observer == 2 {
-        return true;
-    }
-    observer == 10
-}
-
 fn efficacy(observer: u32) -> u32
     ensures { λ r. ⌜ r ≡ ofObserver observer 683 684 ⌝ }
 {
@@ -97,24 +86,4 @@ fn light_sums(observer: u32, start: u32, step: u32, samples: &[u32]) -> Sums
 {
     let row = row_of(start, step, samples);
     row_sums(observer, &row)
-}
-
-// The three sums of a row.
-pub fn row_sums(observer: u32, row: &[u64; 471]) -> Sums
-    requires { ⌜ Row (now row) ⌝ }
-    ensures { λ r. ⌜ RowSums observer (now (row .entry)) r ⌝ }
-{
-    if observer == 10 {
-        Sums {
-            x: weigh(Curve::XBar10, row),
-            y: weigh(Curve::YBar10, row),
-            z: weigh(Curve::ZBar10, row),
-        }
-    } else {
-        Sums {
-            x: weigh(Curve::XBar, row),
-            y: weigh(Curve::YBar, row),
-            z: weigh(Curve::ZBar, row),
-        }
-    }
 }

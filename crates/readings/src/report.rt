@@ -1,10 +1,10 @@
 // The figures of the report, at observer 2, in one call: the row is laid once, and each sum is made once.
-use crate::colour::row_sums;
 use crate::scale;
 use answers::Reading;
 use answers::XyAnswer;
 use answers::Xyz;
 use answers::XyzAnswer;
+use answers::sums::row_sums;
 use answers::work::Sums;
 use answers::work::reading_from;
 use answers::work::xy_from;

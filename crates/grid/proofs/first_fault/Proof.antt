@@ -11,10 +11,10 @@ use Rattle.grid.proofs.first_fault.Statement.{statement}
 use Rattle.grid.proofs.first_fault.Tie as tie
 
 abbrev Inv-loop : tie.InvT-loop
-Inv-loop samples k₀ k-end k = (k ≤ length samples) × ((j : ℕ) → j < k → getD samples j 0 ≤ 1000000)
+Inv-loop number limit samples k₀ k-end k = (k ≤ length samples) × ((j : ℕ) → j < k → getD samples j 0 ≤ limit)
 
 abbrev μ-loop : tie.MeasureT-loop
-μ-loop samples k₀ k-end k = length samples - k
+μ-loop number limit samples k₀ k-end k = length samples - k
 
 loop-holds : tie.Need-loop-holds Inv-loop μ-loop
 loop-holds c = (omega arith, λ j l. absurd (omega arith))
@@ -27,9 +27,9 @@ shared-slice-read-if1 c = omega arith
 
 returns : tie.Need-returns Inv-loop μ-loop
 returns c =
-    let xs = c .before .before .before .before .args .samples .now in
+    let s = c .before .before .before .before .args in
     let k = c .before .before .before .loop .k in
-    sym (rw zero-add at (first-fault 4 1000000 0 xs k (c .before .before .loop-test .taken) (c .before .before .before .loop .inv .1) (c .if1 .taken)))
+    sym (rw zero-add at (first-fault (s .number) (s .limit) 0 (s .samples .now) k (c .before .before .loop-test .taken) (c .before .before .before .loop .inv .1) (c .if1 .taken)))
 
 add-k : tie.Need-add-k Inv-loop μ-loop
 add-k c = omega arith
@@ -38,12 +38,12 @@ loop-less : tie.Need-loop-less Inv-loop μ-loop
 loop-less c = omega arith
 
 loop-again : tie.Need-loop-again Inv-loop μ-loop
-loop-again c = (omega arith, below-more (λ j. getD (c .before .before .before .before .args .samples .now) j 0 ≤ 1000000) (c .before .before .before .loop .k) (c .before .before .before .loop .inv .1) (c .if1 .left))
+loop-again c = (omega arith, below-more (λ j. getD (c .before .before .before .before .args .samples .now) j 0 ≤ c .before .before .before .before .args .limit) (c .before .before .before .loop .k) (c .before .before .before .loop .inv .1) (c .if1 .left))
 
 returns-2 : tie.Need-returns-2 Inv-loop μ-loop
 returns-2 c =
-    let xs = c .before .before .args .samples .now in
-    sym (within-fine 4 1000000 0 xs (within-row 1000000 xs (λ k l. c .before .loop .inv .1 k (omega arith))))
+    let s = c .before .before .args in
+    sym (within-fine (s .number) (s .limit) 0 (s .samples .now) (within-row (s .limit) (s .samples .now) (λ k l. c .before .loop .inv .1 k (omega arith))))
 
 pub first-fault-spec : {M : Type 1} → statement M
 first-fault-spec =

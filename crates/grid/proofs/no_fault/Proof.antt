@@ -12,10 +12,10 @@ use Rattle.grid.proofs.no_fault.Statement.{statement}
 use Rattle.grid.proofs.no_fault.Tie as tie
 
 abbrev Inv-loop : tie.InvT-loop
-Inv-loop samples fine₀ k₀ k-end fine k = (k ≤ length samples) × (fine ≡ true → (j : ℕ) → j < k → getD samples j 0 ≤ 1000000)
+Inv-loop limit samples fine₀ k₀ k-end fine k = (k ≤ length samples) × (fine ≡ true → (j : ℕ) → j < k → getD samples j 0 ≤ limit)
 
 abbrev μ-loop : tie.MeasureT-loop
-μ-loop samples fine₀ k₀ k-end fine k = length samples - k
+μ-loop limit samples fine₀ k₀ k-end fine k = length samples - k
 
 loop-holds : tie.Need-loop-holds Inv-loop μ-loop
 loop-holds c = (omega arith, λ e j l. absurd (omega arith))
@@ -37,13 +37,13 @@ loop-again c = (
   omega arith,
   λ e.
       ⊎-elim (λ w. absurd (let z : _≡_ {A = ℕ} 0 1 = cc (w .1) in omega arith))
-      (λ w. below-more (λ j. getD (c .before .before .before .before .args .samples .now) j 0 ≤ 1000000) (c .before .before .before .loop .k) (c .before .before .before .loop .inv .1 (sym (w .1) ∙ e)) (w .0 .left))
+      (λ w. below-more (λ j. getD (c .before .before .before .before .args .samples .now) j 0 ≤ c .before .before .before .before .args .limit) (c .before .before .before .loop .k) (c .before .before .before .loop .inv .1 (sym (w .1) ∙ e)) (w .0 .left))
       (c .if1 .came),
 )
 
 returns : tie.Need-returns Inv-loop μ-loop
 returns c =
-    λ e. within-row 1000000 (c .before .before .args .samples .now) (λ k l. c .before .loop .inv .1 e k (omega arith))
+    λ e. within-row (c .before .before .args .limit) (c .before .before .args .samples .now) (λ k l. c .before .loop .inv .1 e k (omega arith))
 
 pub no-fault-spec : {M : Type 1} → statement M
 no-fault-spec =

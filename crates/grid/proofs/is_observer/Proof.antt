@@ -1,7 +1,7 @@
 -- Two tests.
 use borrow.Author.Tests.{ne-eqb}
-use Rattle.readings.proofs.colour.is_observer.Statement.{statement}
-use Rattle.readings.proofs.colour.is_observer.Tie as tie
+use Rattle.grid.proofs.is_observer.Statement.{statement}
+use Rattle.grid.proofs.is_observer.Tie as tie
 
 returns : tie.Need-returns
 returns c = rw (c .if1 .taken)

@@ -1,8 +1,8 @@
 -- Each curve is the observer's.
 use borrow.Author.Tests.{ne-eqb}
 use borrow.Author.Needs.{needs}
-use Rattle.readings.proofs.colour.row_sums.Statement.{statement}
-use Rattle.readings.proofs.colour.row_sums.Tie as tie
+use Rattle.answers.proofs.sums.row_sums.Statement.{statement}
+use Rattle.answers.proofs.sums.row_sums.Tie as tie
 
 weigh-requires : tie.Need-weigh-requires
 weigh-requires c κs = search needs

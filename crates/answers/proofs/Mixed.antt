@@ -11,10 +11,9 @@ use Rattle.mixing.specs.Promise.{Within, Between}
 use Rattle.mixing.proofs.Mixture.{linear-plus, linear-times}
 use Rattle.mixing.proofs.Illuminance.{illuminance}
 use Rattle.mixing.proofs.Coordinate.{between}
 use Rattle.answers.specs.Worked.{readingFrom, xyzFrom, xyFrom}
-use Rattle.answers.specs.Said.{Said, saidReading, saidXyz, saidXy}
+use Rattle.answers.specs.Said.{Said, value, saidReading, saidXyz, saidXy}
 use Rattle.answers.proofs.Values.{reading-values, xyz-values, xy-lit, xy-dark, xy-given}
-use Rattle.readings.specs.Promises.{value}
 
 -- each of these sums is linear
 abbrev AllLinear : ℕ → List (List ℕ → ℕ) → Type 0

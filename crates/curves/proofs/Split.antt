@@ -1,0 +1,21 @@
+-- The two parts of a row that is split, weighed, make together what the products would.
+use mathlib.Core.Path.{_≡_}
+use mathlib.Core.List.{List}
+use Prim.Native.Nat.{ℕ, _+_, _*_, _/_, _%_, _^_}
+use lib.ListN.{getD}
+use Rattle.mixing.specs.Sum.{weighted}
+use Rattle.mixing.proofs.Sum.{weighted-ext, line-split}
+use Rattle.curves.specs.Curves.{entryOf}
+use Rattle.curves.specs.Split.{SplitOf}
+use Rattle.curves.specs.declared.lit.Split.{Split}
+
+pub split-weighed :
+    (illuminant row : List ℕ) (split : Split) → SplitOf illuminant row split → (v : ℕ → ℕ) →
+    weighted 471 v (entryOf (split .high)) * 2 ^ 21 + weighted 471 v (entryOf (split .low))
+    ≡ weighted 471 v (λ k. getD illuminant k 0 * getD row k 0)
+split-weighed illuminant row split s v =
+    rw (
+      weighted-ext 471 v (entryOf (split .high)) (λ k. getD illuminant k 0 * getD row k 0 / 2 ^ 21) (s .high),
+      weighted-ext 471 v (entryOf (split .low)) (λ k. getD illuminant k 0 * getD row k 0 % 2 ^ 21) (s .low),
+    )
+    (line-split (2 ^ 21) 471 v (λ k. getD illuminant k 0 * getD row k 0))

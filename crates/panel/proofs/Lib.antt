@@ -1,0 +1,8 @@
+-- Laws of panels.
+pub mod Computed
+pub mod Surface
+pub mod Sized
+pub mod Weighed
+pub mod Worked
+pub mod Given
+pub mod Full

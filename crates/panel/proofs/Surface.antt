@@ -1,0 +1,35 @@
+-- What the checks tell of an accepted panel.
+use mathlib.Core.Path.{_≡_}
+use mathlib.Core.List.{List}
+use Prim.Native.Nat.{ℕ}
+use lib.ListN.{length}
+use Rattle.grid.specs.declared.Check.the-variants.{Fine}
+use Rattle.grid.specs.Check.{isObserver, gridCheck, reflectancesCheck, require, refusal, Within}
+use Rattle.grid.proofs.Limit.{passed, fine-within}
+use Rattle.grid.proofs.Accepted.{OnGrid, accepted}
+use Rattle.curves.specs.Split.{Reflected}
+use Rattle.spectrum.specs.Line.{rowOf}
+use Rattle.spectrum.proofs.Light.{both-fine, row-within}
+use Rattle.panel.specs.Panel.{isIlluminant, surfaceCheck, panelCheck}
+
+pub surface-fine : (o i a s : ℕ) (rs : List ℕ) → panelCheck o i a s rs ≡ Fine → surfaceCheck a s rs ≡ Fine
+unfolding panelCheck
+surface-fine o i a s rs fine =
+    passed (isIlluminant i) (surfaceCheck a s rs) (refusal 7 0)
+    (passed (isObserver o) (require (isIlluminant i) 7 (surfaceCheck a s rs)) (refusal 6 0) fine .1)
+    .1
+
+module _ (a s : ℕ) (rs : List ℕ) (fine : surfaceCheck a s rs ≡ Fine) where
+  pub grid-fine : gridCheck a s (length rs) ≡ Fine
+  unfolding surfaceCheck
+  grid-fine = both-fine (gridCheck a s (length rs)) (reflectancesCheck rs) fine .0
+
+  pub within : Within 10000 rs
+  unfolding surfaceCheck
+  within = fine-within 8 10000 0 rs (both-fine (gridCheck a s (length rs)) (reflectancesCheck rs) fine .1)
+
+  pub on-grid : OnGrid a s (length rs)
+  on-grid = accepted a s (length rs) grid-fine
+
+  pub row-small : Reflected (rowOf a s rs)
+  row-small = row-within a s 10000 rs on-grid within

@@ -1,0 +1,75 @@
+-- The loop's invariant: the places passed hold the reflectances.
+use mathlib.Core.Path.{_≡_, refl, _∙_}
+use Prim.Native.Nat.{_-_, _≤_}
+use borrow.Author.Needs.{needs}
+use native.Mathlib.Omega.{arith}
+use lib.ListN.{length, getD, take}
+use lib.Seq.{ext-getD, getD-take, length-take-le}
+use Rattle.curves.proofs.Filled.{FilledTo, fill-more}
+use Rattle.panel.proofs.reflectances.widened.Statement.{statement}
+use Rattle.panel.proofs.reflectances.widened.Tie as tie
+
+abbrev Inv-loop : tie.InvT-loop
+Inv-loop reflectances wide₀ k₀ k-end wide k = (k ≤ length reflectances) × FilledTo 531 (λ j. getD reflectances j 0) wide k
+
+abbrev μ-loop : tie.MeasureT-loop
+μ-loop reflectances wide₀ k₀ k-end wide k = length reflectances - k
+
+loop-holds : tie.Need-loop-holds Inv-loop μ-loop
+loop-holds c = (omega arith, record { long = refl; filled = λ q h. absurd (omega arith) })
+
+mul-wide : tie.Need-mul-wide Inv-loop μ-loop
+mul-wide c = search needs
+
+shared-slice-read-wide : tie.Need-shared-slice-read-wide Inv-loop μ-loop
+shared-slice-read-wide c = omega arith
+
+cast-wide : tie.Need-cast-wide Inv-loop μ-loop
+cast-wide c = omega (arith, c .shared-slice-known .given (c .before .before .loop .k))
+
+mul-wide-2 : tie.Need-mul-wide-2 Inv-loop μ-loop
+mul-wide-2 c = search needs
+
+array-write-wide : tie.Need-array-write-wide Inv-loop μ-loop
+array-write-wide c = omega arith
+
+add-k : tie.Need-add-k Inv-loop μ-loop
+add-k c = omega arith
+
+loop-less : tie.Need-loop-less Inv-loop μ-loop
+loop-less c = omega arith
+
+loop-again : tie.Need-loop-again Inv-loop μ-loop
+loop-again c =
+    let rs = c .before .before .before .args .reflectances .now in
+    let l = c .before .before .loop in
+    (omega arith, fill-more 531 (λ j. getD rs j 0) (l .wide) (l .k) _ (l .inv .1) (omega arith) refl)
+
+returns : tie.Need-returns Inv-loop μ-loop
+returns c =
+    let rs = c .before .before .args .reflectances .now in
+    let l = c .before .loop in
+    let long = l .inv .1 .long in
+    let many : length (take (length rs) (l .wide)) ≡ length rs = length-take-le (length rs) (l .wide) (omega arith) in
+    record {
+      long = long;
+      first = ext-getD 0 (take (length rs) (l .wide)) rs many
+          (λ j h. getD-take (length rs) (l .wide) j 0 (omega arith) ∙ l .inv .1 .filled j (omega arith));
+    }
+
+pub widened-spec : {M : Type 1} → statement M
+widened-spec =
+    tie.close
+    (tie.spec
+    Inv-loop
+    μ-loop
+    loop-holds
+    mul-wide
+    shared-slice-read-wide
+    cast-wide
+    mul-wide-2
+    array-write-wide
+    add-k
+    loop-less
+    loop-again
+    returns)

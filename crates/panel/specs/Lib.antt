@@ -1,0 +1,5 @@
+-- Definitions of the crate `panel`.
+pub mod Panel
+pub mod Sums
+pub mod Wide
+pub mod Promises
