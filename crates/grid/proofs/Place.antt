@@ -1,15 +1,16 @@
 -- The place that a refusal names lies in the row; other refusals have place 0.
-use mathlib.Core.Path.{_≡_, refl, ap, sym, subst}
+use mathlib.Core.Path.{_≡_, refl}
 use mathlib.Core.Bool.{Bool, true, false, cond}
 use mathlib.Core.List.{List, [], _∷_}
-use Prim.Native.Nat.{ℕ, suc, _+_, _<_, _≤_}
+use Prim.Native.Nat.{ℕ, suc, _+_, _≤_}
 use native.Mathlib.Omega.{arith}
 use lib.ListN.{length}
 use lib.Dec.{leb}
 use Rattle.grid.specs.declared.Refusal.{Refusal}
 use Rattle.grid.specs.declared.Check.{Check}
 use Rattle.grid.specs.declared.Check.the-variants.{Fine, Refused}
-use Rattle.grid.specs.Check.{refusal, require, gridCheck, limitCheck, isStep, isStart, isCount}
+use Rattle.grid.proofs.Accepted.{accepted}
+use Rattle.grid.specs.Check.{refusal, require, unless, gridCheck, limitCheck, isStep, isStart, isCount}
 
 -- the place of a check's refusal, 0 where it is fine
 abbrev pub placeOf : Check → ℕ
@@ -38,3 +39,19 @@ limit-place number limit place (x ∷ xs) = go (leb x limit) (limit-place number
         placeOf (cond b (limitCheck number limit (suc place) xs) (Refused (refusal number place))) ≤ place + suc (length xs)
     go true h = omega arith
     go false h = omega arith
+
+-- behind the grid's check there are no more than 531 samples
+pub row-place :
+    (number limit a s : ℕ) (xs : List ℕ) →
+    placeOf (unless (gridCheck a s (length xs)) Refused (limitCheck number limit 0 xs)) ≤ 531
+row-place number limit a s xs = go (gridCheck a s (length xs)) refl
+  where
+    go :
+        (c : Check) → gridCheck a s (length xs) ≡ c → placeOf (unless c Refused (limitCheck number limit 0 xs)) ≤ 531
+    go Fine e =
+        let many = accepted a s (length xs) e .many in
+        let place = limit-place number limit 0 xs in
+        omega arith
+    go (Refused r) e =
+        let none = rw e at (grid-place a s (length xs)) in
+        omega arith

@@ -1,4 +1,5 @@
 // The C boundary: every open function of the library under a plain name, with a flat answer by value.
 pub mod flat;
 pub mod lights;
+pub mod panels;
 pub mod records;

@@ -4,6 +4,7 @@ use Prim.Native.Nat.{ℕ, _+_, _^_, _≤_, _<_}
 use native.Mathlib.Nat.{le-trans}
 use native.Mathlib.Omega.{arith}
 use lib.Dec.{leb}
+use Rattle.grid.specs.Check.{isObserver}
 use Rattle.grid.proofs.Place.{placeOf, require-place}
 use Rattle.curves.specs.declared.Curve.{Curve}
 use Rattle.curves.specs.declared.Curve.the-variants.{YBar, VPrime}
@@ -14,7 +15,7 @@ use Rattle.answers.specs.declared.XyzAnswer.{XyzAnswer}
 use Rattle.answers.specs.declared.XyAnswer.{XyAnswer}
 use Rattle.answers.specs.Said.{saidReading, saidXyz, saidXy, saidChart}
 use Rattle.answers.proofs.Places.{reading-place, xyz-place, xy-place, chart-place}
-use Rattle.readings.specs.Readings.{illuminanceOf, mesopicCheck, mesopicOf, isObserver, colourCheck, xyzOf, xyOf, chartOf, together, figuresOf}
+use Rattle.readings.specs.Readings.{illuminanceOf, mesopicCheck, mesopicOf, colourCheck, xyzOf, xyOf, chartOf, together, figuresOf}
 use Rattle.readings.specs.Figures.{saidFigures}
 
 module _ (a s : ℕ) (xs : List ℕ) where

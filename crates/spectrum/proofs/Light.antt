@@ -1,7 +1,7 @@
 -- What an accepted light's row is: small enough to be weighed, and W when it is.
 use mathlib.Core.Path.{_≡_, refl}
 use mathlib.Core.List.{List}
-use Prim.Native.Nat.{ℕ, _+_, _*_}
+use Prim.Native.Nat.{ℕ, _+_, _*_, _≤_}
 use native.Mathlib.Nat.{le-trans, mul-le-mul-right}
 use native.Mathlib.Omega.{arith}
 use lib.ListN.{length}
@@ -10,7 +10,7 @@ use Rattle.grid.specs.declared.Check.the-variants.{Fine, Refused}
 use Rattle.grid.specs.Check.{gridCheck, samplesCheck, unless, Within}
 use Rattle.grid.proofs.Limit.{fine-within, within-row}
 use Rattle.grid.proofs.Accepted.{OnGrid, accepted}
-use Rattle.grid.proofs.Place.{placeOf, grid-place, limit-place}
+use Rattle.grid.proofs.Place.{placeOf, row-place}
 use Rattle.mixing.specs.Sum.{weighted}
 use Rattle.mixing.proofs.Sum.{weighted-ext}
 use Rattle.curves.specs.Curves.{entryOf, Row}
@@ -58,13 +58,4 @@ row-weighed v a s xs =
 -- a refusal's place fits a row that the grid allows
 pub light-place : (a s : ℕ) (xs : List ℕ) → placeOf (lightCheck a s xs) ≤ 531
 unfolding lightCheck
-light-place a s xs = go (gridCheck a s (length xs)) refl
-  where
-    go : (c : Check) → gridCheck a s (length xs) ≡ c → placeOf (unless c Refused (samplesCheck xs)) ≤ 531
-    go Fine e =
-        let many = accepted a s (length xs) e .many in
-        let place = limit-place 4 1000000 0 xs in
-        omega arith
-    go (Refused r) e =
-        let none : placeOf (Refused r) ≡ 0 = (rw e at (grid-place a s (length xs))) in
-        omega arith
+light-place a s xs = row-place 4 1000000 a s xs

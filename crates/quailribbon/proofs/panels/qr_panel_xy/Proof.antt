@@ -1,0 +1,21 @@
+-- A refusal's place fits 32 bits.
+use mathlib.Core.Path.{_∙_, ap}
+use native.Mathlib.Omega.{arith}
+use Rattle.quailribbon.proofs.PanelPlaces.{xy-fits}
+use Rattle.answers.specs.Said.{saidXy}
+use Rattle.quailribbon.specs.Flat.{flatXy}
+use borrow.Author.Needs.{needs}
+use Rattle.quailribbon.proofs.panels.qr_panel_xy.Statement.{statement}
+use Rattle.quailribbon.proofs.panels.qr_panel_xy.Tie as tie
+
+panel-xy-requires : tie.Need-panel-xy-requires
+panel-xy-requires c κs = search needs
+
+flat-xy-requires : tie.Need-flat-xy-requires
+flat-xy-requires c κs = let h = xy-fits (c .before .before .args .observer) (c .before .before .args .illuminant) (c .before .before .args .start) (c .before .before .args .step) (c .before .before .args .reflectances .now) in rw (c .panel-xy .ensures) (omega arith)
+
+returns : tie.Need-returns
+returns c = c .flat-xy .ensures ∙ ap (λ r. flatXy (saidXy r)) (c .before .panel-xy .ensures)
+
+pub qr-panel-xy-spec : {M : Type 1} → statement M
+qr-panel-xy-spec = tie.close (tie.spec panel-xy-requires flat-xy-requires returns)

@@ -1,0 +1,50 @@
+// The colour of a panel, for C.
+use crate::flat::QrChart;
+use crate::flat::QrXy;
+use crate::flat::QrXyz;
+use crate::flat::flat_chart;
+use crate::flat::flat_xy;
+use crate::flat::flat_xyz;
+ghost use mathlib.Core.Path.{_≡_};
+ghost use Rattle.answers.specs.Said.{saidXyz, saidXy};
+ghost use Rattle.panel.specs.Panel.{panelXyzOf, panelXyOf, panelChartOf};
+ghost use Rattle.quailribbon.specs.Flat.{flatXyz, flatXy, flatChart};
+
+#[no_mangle]
+pub extern "C" fn qr_panel_xyz(
+    observer: u32,
+    illuminant: u32,
+    start: u32,
+    step: u32,
+    reflectances: &[u16],
+) -> QrXyz
+    ensures { λ r. ⌜ r ≡ flatXyz (saidXyz (panelXyzOf observer illuminant start step (now (reflectances .entry)))) ⌝ }
+{
+    flat_xyz(panel::panel_xyz(observer, illuminant, start, step, reflectances))
+}
+
+#[no_mangle]
+pub extern "C" fn qr_panel_xy(
+    observer: u32,
+    illuminant: u32,
+    start: u32,
+    step: u32,
+    reflectances: &[u16],
+) -> QrXy
+    ensures { λ r. ⌜ r ≡ flatXy (saidXy (panelXyOf observer illuminant start step (now (reflectances .entry)))) ⌝ }
+{
+    flat_xy(panel::panel_xy(observer, illuminant, start, step, reflectances))
+}
+
+#[no_mangle]
+pub extern "C" fn qr_panel_chart(
+    observer: u32,
+    illuminant: u32,
+    start: u32,
+    step: u32,
+    reflectances: &[u16],
+) -> QrChart
+    ensures { λ r. ⌜ r ≡ flatChart (panelChartOf observer illuminant start step (now (reflectances .entry))) ⌝ }
+{
+    flat_chart(panel::panel_chart(observer, illuminant, start, step, reflectances))
+}
