@@ -10,11 +10,12 @@ use Rattle.grid.specs.Check.{gridCheck, limitCheck}
 use Rattle.mixing.specs.Nearest.{nearest}
 use Rattle.mixing.specs.Sum.{total, weighted}
 use Rattle.mixing.specs.Mixture.{mix}
-use Rattle.curves.specs.Tables.{xBar, yBar, zBar, xBar10, yBar10, zBar10, vPrime}
+use Rattle.curves.specs.Tables.{xBar, yBar, zBar, xBar10, yBar10, zBar10, vPrime, illuminantA, illuminantD65}
 use Rattle.curves.specs.Curves.{table}
 use Rattle.spectrum.specs.Light.{lightCheck}
 use Rattle.spectrum.specs.Line.{lineAt, endRule, W, T as T′}
 use Rattle.answers.specs.Worked.{readingFrom, xyzFrom, xyFrom}
+use Rattle.panel.specs.Panel.{surfaceCheck, panelCheck, whiteSum, panelXyzOf, panelXyOf}
 use Rattle.readings.specs.Readings.{illuminanceOf, mesopicOf, xyzOf, xyOf}
 use Rattle.figures.specs.Asked.{answerOf}
 use Rattle.figures.specs.Rows.{Row, rows}
@@ -90,5 +91,5 @@ holds (r ∷ rs) t = (
 
 -- the test, computed over the whole table
 pub passes : T (test rows)
-unfolding test same sameNumbers noFloats rows answerOf illuminanceOf mesopicOf xyzOf xyOf readingFrom xyzFrom xyFrom lightCheck gridCheck limitCheck W weighted total T′ lineAt endRule table xBar yBar zBar xBar10 yBar10 zBar10 vPrime nearest mix
+unfolding test same sameNumbers noFloats rows answerOf panelXyzOf panelXyOf panelCheck surfaceCheck whiteSum illuminanceOf mesopicOf xyzOf xyOf readingFrom xyzFrom xyFrom lightCheck gridCheck limitCheck W weighted total T′ lineAt endRule table xBar yBar zBar xBar10 yBar10 zBar10 vPrime illuminantA illuminantD65 nearest mix
 passes = tt

@@ -2,12 +2,14 @@
 use mathlib.Core.List.{List}
 use Prim.Native.Nat.{ℕ}
 use Rattle.answers.specs.Said.{Said, saidReading, saidXyz, saidXy}
+use Rattle.panel.specs.Panel.{panelXyzOf, panelXyOf}
 use Rattle.readings.specs.Readings.{photopicOf, scotopicOf, photopic10Of, mesopicOf, xyzOf, xyOf}
 
 pub data Asked : Type 0 where
   photopic scotopic photopic10 : ℕ → ℕ → List ℕ → Asked
   mesopic : ℕ → ℕ → ℕ → List ℕ → Asked
   xyz xy : ℕ → ℕ → ℕ → List ℕ → Asked
+  panelXyz panelXy : ℕ → ℕ → ℕ → ℕ → List ℕ → Asked
 
 unfoldable pub answerOf : Asked → Said
 answerOf (photopic a s xs) = saidReading (photopicOf a s xs)
@@ -16,3 +18,5 @@ answerOf (photopic10 a s xs) = saidReading (photopic10Of a s xs)
 answerOf (mesopic k a s xs) = saidReading (mesopicOf k a s xs)
 answerOf (xyz o a s xs) = saidXyz (xyzOf o a s xs)
 answerOf (xy o a s xs) = saidXy (xyOf o a s xs)
+answerOf (panelXyz o i a s rs) = saidXyz (panelXyzOf o i a s rs)
+answerOf (panelXy o i a s rs) = saidXy (panelXyOf o i a s rs)

@@ -5,7 +5,7 @@ use lib.ListN.{replicate}
 use Rattle.mixing.specs.Mixture.{mix}
 use Rattle.answers.specs.Said.{Said, given, refusedWith}
 use Rattle.grid.specs.Check.{refusal}
-use Rattle.figures.specs.Asked.{Asked, photopic, scotopic, photopic10, mesopic, xyz, xy}
+use Rattle.figures.specs.Asked.{Asked, photopic, scotopic, photopic10, mesopic, xyz, xy, panelXyz, panelXy}
 
 -- an input, and what it must give
 pub record Row : Type 0 where
@@ -62,6 +62,9 @@ rows =
     ∷ gives (xy 2 380 1 (mix (at460 1000000) (at485 1000000))) (12179 ∷ 8008 ∷ [])
     -- P8: 25,000 at 460 mixed with itself
     ∷ gives (photopic 380 1 (mix (at460 25000) (at460 25000))) (2049 ∷ [])
+    -- P9: a full white panel under A and under D65, with the published white points
+    ∷ gives (panelXyz 2 1 360 1 (replicate 471 10000)) (109850 ∷ 100000 ∷ 35585 ∷ [])
+    ∷ gives (panelXyz 2 2 360 1 (replicate 471 10000)) (95047 ∷ 100000 ∷ 108883 ∷ [])
     -- P10: refusals
     ∷ refuses (photopic 380 3 (replicate 401 0)) 1 0
     ∷ refuses (photopic 299 1 (replicate 401 0)) 2 0
@@ -77,4 +80,11 @@ rows =
     -- our own: lit at 355 nm alone, at step 10, which pulls on the line that crosses 360
     ∷ gives (xyz 2 355 10 (lone 44 0 1000000)) (157 ∷ 5 ∷ 733 ∷ [])
     ∷ gives (xyz 10 355 10 (lone 44 0 1000000)) (0 ∷ 0 ∷ 1 ∷ [])
+    -- our own: a full white panel for observer 10, and a panel's refusals
+    ∷ gives (panelXyz 10 2 360 1 (replicate 471 10000)) (94811 ∷ 100000 ∷ 107305 ∷ [])
+    ∷ gives (panelXy 2 2 360 1 (replicate 471 10000)) (31273 ∷ 32902 ∷ [])
+    ∷ refuses (panelXyz 3 3 360 1 (replicate 471 10000)) 6 0
+    ∷ refuses (panelXyz 2 3 360 1 (replicate 471 10000)) 7 0
+    ∷ refuses (panelXyz 2 1 360 1 (lone 471 470 10001)) 8 470
+    ∷ refuses (panelXy 2 1 360 1 (replicate 471 0)) 9 0
     ∷ []
