@@ -47,10 +47,10 @@ read-back = record { written = λ a s xs bytes fine room. written a s xs fine by
 
 -- a record that the reader accepts
 module _ (bytes row : List ℕ) (h : Header) (e : readAnswer bytes (length row) ≡ Read h) where
-  said : (readCheck bytes (length row) ≡ Fine) × (h ≡ header (startOf bytes) (stepOf bytes) (countOf bytes))
+  pub said : (readCheck bytes (length row) ≡ Fine) × (h ≡ header (startOf bytes) (stepOf bytes) (countOf bytes))
   said = answer-read (readCheck bytes (length row)) (header (startOf bytes) (stepOf bytes) (countOf bytes)) h e
 
-  fine : recordCheck bytes ≡ Fine
+  pub fine : recordCheck bytes ≡ Fine
   fine = both-fine (recordCheck bytes) (roomCheck (countOf bytes) (length row)) (said .0) .0
 
   samples-read : take (h .count) (rowAfter bytes row) ≡ samplesOf (countOf bytes) bytes
@@ -60,7 +60,7 @@ module _ (bytes row : List ℕ) (h : Header) (e : readAnswer bytes (length row) 
       ∙ rw (said .0) (take-at (samplesOf n bytes) (drop n row) n (samples-length n bytes))
 
   -- what was read is the spectrum whose record it is
-  same-spectrum :
+  pub same-spectrum :
       {A : Type 0} (f : ℕ → ℕ → List ℕ → A) →
       f (h .start) (h .step) (take (h .count) (rowAfter bytes row)) ≡ f (startOf bytes) (stepOf bytes) (samplesOf (countOf bytes) bytes)
   same-spectrum f = ap₂ (λ (g : Header) (xs : List ℕ). f (g .start) (g .step) xs) (said .1) samples-read

@@ -1,0 +1,61 @@
+-- No text has more than 99 bytes: a reading has at most 10 digits and a coordinate 6, and a refusal's two numbers at most 20 each.
+use mathlib.Core.Path.{_≡_, refl}
+use mathlib.Core.Bool.{Bool, true, false, cond}
+use mathlib.Core.List.{List, [], _++_}
+use Prim.Native.Nat.{ℕ, _+_, _/_, _≤_}
+use native.Mathlib.Omega.{arith}
+use lib.ListN.{length, length-append}
+use lib.Dec.{eqb}
+use Rattle.grid.specs.declared.Refusal.{Refusal}
+use Rattle.answers.specs.declared.XyAnswer.{XyAnswer}
+use Rattle.readings.specs.declared.report.ReportFigures.{ReportFigures}
+use Rattle.readings.specs.declared.report.FiguresAnswer.{FiguresAnswer}
+use Rattle.page.specs.Report.{photopic, scotopic, bigX, bigY, bigZ, dash, at, refused, decimal, coordinate, line, numbered, smallX, smallY, colourLines, figureLines, textOf, answerOf, reportOf}
+use Rattle.page.proofs.Digits.{digits-most, digits-few}
+use Rattle.page.proofs.Small.{Small, SmallXy, answer-small}
+
+line-length : (word said : List ℕ) → length (line word said) ≡ length word + length said + 1
+unfolding line
+line-length word said = simp length-append
+
+number-length : (word : List ℕ) (n : ℕ) → n ≤ 4294967295 → length (line word (decimal n)) ≤ length word + 11
+number-length word n h = omega (arith, line-length word (decimal n), digits-few 9 20 n (omega arith))
+
+coordinate-length : (word : List ℕ) (n : ℕ) → n ≤ 100000 → length (line word (coordinate n)) ≤ length word + 8
+unfolding coordinate
+coordinate-length word n h =
+    let places : length (coordinate n) ≡ length (decimal (n / 100000)) + 6 = simp length-append in
+    omega (arith, line-length word (coordinate n), digits-few 0 20 (n / 100000) (omega arith))
+
+numbered-length : (r : Refusal) → length (numbered r) ≤ 44
+unfolding numbered
+numbered-length r =
+    omega (arith, length-append (decimal (r .number)) (cond (eqb (r .number) 4) (at ++ decimal (r .place)) []), digits-most 20 (r .number), go (eqb (r .number) 4))
+  where
+    go : (b : Bool) → length (cond b (at ++ decimal (r .place)) []) ≤ 24
+    go true = omega (arith, length-append at (decimal (r .place)), digits-most 20 (r .place))
+    go false = omega arith
+
+colour-length : (xy : XyAnswer) → SmallXy xy → length (colourLines xy) ≤ 20
+unfolding colourLines
+colour-length (XyAnswer.Value v) h =
+    let small = h v refl in
+    omega
+    (arith, length-append (line smallX (coordinate (v .x))) (line smallY (coordinate (v .y))), coordinate-length smallX (v .x) (small .0), coordinate-length smallY (v .y) (small .1))
+colour-length (XyAnswer.Refused dark) h =
+    omega (arith, length-append (line smallX dash) (line smallY dash), line-length smallX dash, line-length smallY dash)
+
+figures-length : (f : ReportFigures) → Small f → length (figureLines f) ≤ 99
+unfolding figureLines
+figures-length f h =
+    simp length-append
+    (omega
+    (arith, number-length photopic (f .photopic) (h .photopic), number-length scotopic (f .scotopic) (h .scotopic), number-length bigX (f .xyz .x) (h .xyz .0), number-length bigY (f .xyz .y) (h .xyz .1), number-length bigZ (f .xyz .z) (h .xyz .2), colour-length (f .xy) (h .xy)))
+
+text-length : (a : FiguresAnswer) → ((f : ReportFigures) → a ≡ FiguresAnswer.Value f → Small f) → length (textOf a) ≤ 99
+unfolding textOf
+text-length (FiguresAnswer.Value f) h = figures-length f (h f refl)
+text-length (FiguresAnswer.Refused r) h = omega (arith, line-length refused (numbered r), numbered-length r)
+
+pub most : (bytes : List ℕ) → length (reportOf bytes) ≤ 99
+most bytes = text-length (answerOf bytes) (answer-small bytes)

@@ -1,0 +1,89 @@
+-- What is read of an accepted record is its spectrum, and the figures are that spectrum's.
+use mathlib.Core.Path.{_≡_, sym, ap, _∙_}
+use mathlib.Core.List.{List}
+use Prim.Native.Nat.{ℕ, _≤_}
+use native.Mathlib.Omega.{arith}
+use lib.ListN.{length, take, replicate, length-take}
+use Rattle.record.specs.Format.{startOf, stepOf, countOf}
+use Rattle.record.specs.Answer.{readAnswer, readCheck, header}
+use Rattle.record.specs.declared.Header.{Header}
+use Rattle.record.specs.declared.RecordRead.the-variants.{Read}
+use Rattle.record.proofs.Reading.{answer-refused}
+use Rattle.record.proofs.Promises.{said, fine, same-spectrum}
+use Rattle.readings.specs.Readings.{figuresOf}
+use Rattle.page.specs.Report.{answerOf}
+use Rattle.page.proofs.Room.{count-most, read-whole}
+use borrow.Author.Needs.{needs}
+use Rattle.page.proofs.answer_of.Statement.{statement}
+use Rattle.page.proofs.answer_of.Tie as tie
+
+abbrev bytes : tie.After-said → List ℕ
+bytes c = c .before .before .before .before .before .before .args .bytes .now
+
+abbrev lent : List ℕ
+lent = replicate 531 0
+
+abbrev head : tie.After-said → Header
+head c = c .said .given .0 .0
+
+answer : (c : tie.After-said) → readAnswer (bytes c) (length lent) ≡ Read (head c)
+answer c = sym (c .before .before .before .read-record .ensures .0) ∙ c .said .given .1
+
+count-fits : (c : tie.After-said) → head c .count ≤ length (c .before .before .before .read-record .last .1 .0)
+count-fits c =
+    let count = ap (λ (h : Header). h .count) (said (bytes c) lent (head c) (answer c) .1) in
+    omega (arith, count, count-most (bytes c) (fine (bytes c) lent (head c) (answer c)), c .before .before .before .read-record .kept .1 .0)
+
+slice-aggregate-read-record : tie.Need-slice-aggregate-read-record
+slice-aggregate-read-record c = search needs
+
+read-record-requires : tie.Need-read-record-requires
+read-record-requires c κs = search needs
+
+enum-known-said : tie.Need-enum-known-said
+enum-known-said c = search needs
+
+array-share-prefix-row : tie.Need-array-share-prefix-row
+array-share-prefix-row c = count-fits (c .before)
+
+slice-aggregate-figures : tie.Need-slice-aggregate-figures
+slice-aggregate-figures c = let h = count-fits (c .before .before) in simp length-take (omega arith)
+
+figures-requires : tie.Need-figures-requires
+figures-requires c κs = search needs
+
+enum-known-refusal : tie.Need-enum-known-refusal
+enum-known-refusal c = search needs
+
+returns : tie.Need-returns
+unfolding answerOf
+returns c =
+    let read = c .before .before .before in
+    let told = answer read in
+    rw (fine (bytes read) lent (head read) told)
+    (c .figures .ensures
+    ∙ ap (λ (xs : List ℕ). figuresOf (head read .start) (head read .step) (take (head read .count) xs)) (read .before .before .before .read-record .ensures .1)
+    ∙ same-spectrum (bytes read) lent (head read) told figuresOf)
+
+returns-2 : tie.Need-returns-2
+unfolding answerOf
+returns-2 c =
+    let given = c .before .before .before .before .before .before .before .args .bytes .now in
+    let told = sym (c .before .before .before .before .read-record .ensures .0) ∙ c .before .refusal .given .1 in
+    let refused =
+    answer-refused (readCheck given 531) (header (startOf given) (stepOf given) (countOf given)) (c .before .refusal .given .0 .0) told in
+    rw (sym (read-whole given) ∙ refused)
+
+pub answer-of-spec : {M : Type 1} → statement M
+answer-of-spec =
+    tie.close
+    (tie.spec
+    slice-aggregate-read-record
+    read-record-requires
+    enum-known-said
+    array-share-prefix-row
+    slice-aggregate-figures
+    figures-requires
+    enum-known-refusal
+    returns
+    returns-2)

@@ -1,0 +1,24 @@
+-- The example by computation.
+use mathlib.Core.Path.{refl}
+use Rattle.mixing.specs.Nearest.{nearest}
+use Rattle.mixing.specs.Sum.{weighted, total}
+use Rattle.grid.specs.Check.{gridCheck, limitCheck}
+use Rattle.curves.specs.Curves.{table}
+use Rattle.curves.specs.Tables.{xBar, yBar, zBar, vPrime}
+use Rattle.spectrum.specs.Light.{lightCheck}
+use Rattle.spectrum.specs.Line.{lineAt, endRule, T, W}
+use Rattle.answers.specs.Worked.{readingFrom, xyzFrom, xyFrom}
+use Rattle.readings.specs.Readings.{illuminanceOf, xyzOf, xyOf}
+use Rattle.record.specs.Bits.{bitsOf, num, pack, cut}
+use Rattle.record.specs.Format.{recordOf, headerOf, fieldsOf, samplesOf, paddingOf}
+use Rattle.record.specs.Answer.{headerCheck, bodyCheck, recordCheck}
+use Rattle.page.specs.Report.{digits, coordinate, line, colourLines, figureLines, textOf, answerOf}
+use Rattle.page.proofs.promise.example.Statement.{statement}
+use Rattle.page.proofs.promise.example.Tie as tie
+
+returns : tie.Need-returns
+unfolding nearest weighted total xBar yBar zBar vPrime endRule gridCheck limitCheck table lightCheck lineAt T W readingFrom xyzFrom xyFrom illuminanceOf xyzOf xyOf bitsOf num pack cut recordOf headerOf fieldsOf samplesOf paddingOf headerCheck bodyCheck recordCheck digits coordinate line colourLines figureLines textOf answerOf
+returns c = record { page = refl }
+
+pub example-spec : {M : Type 1} → statement M
+example-spec = tie.close (tie.spec returns)

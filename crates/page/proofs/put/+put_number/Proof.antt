@@ -1,0 +1,169 @@
+-- The measure is the number. One digit stands alone; else the rest is put, and the last digit behind it.
+use mathlib.Core.Path.{_≡_, refl, sym, ap}
+use mathlib.Core.List.{[], _∷_, _++_}
+use Prim.Native.Nat.{_+_, _/_, _^_}
+use native.Mathlib.Omega.{arith}
+use borrow.Author.Needs.{needs}
+use lib.ListN.{length, length-append}
+use Rattle.page.specs.Report.{decimal}
+use Rattle.page.proofs.Joined.{joined}
+use Rattle.page.proofs.Digits.{decimal-one, decimal-more}
+use Prim.Native.Nat.{ℕ, _<_}
+use borrow.Fn.Kinds.{In}
+use borrow.Fn.PlainCycle.{Measures, is, falls, and}
+use Rattle.page.proofs.put.put_number.Reads as put-number
+use Rattle.page.proofs.put.put_number.Kinds as put-number-kinds
+use Rattle.page.proofs.put.+put_number.Lts-put_number as put-number-lts
+use Rattle.page.proofs.put.digit.Reads as digit-reads
+use Rattle.page.proofs.put.put.Reads as put-reads
+use Rattle.page.proofs.put.+put_number.{statement}
+use Rattle.page.proofs.put.+put_number.Tie.{close}
+
+abbrev μ-put-number : Measures 1 put-number-kinds.ps ℕ
+μ-put-number κs a = a .1 .1 .0
+
+abbrev put-number-at : ℕ → In 1 put-number-kinds.ps
+put-number-at t =
+    and 1 put-number-kinds.ps (is 1 put-number-kinds.ps μ-put-number t) put-number.Pre
+
+abbrev put-number-below : ℕ → In 1 put-number-kinds.ps
+put-number-below t =
+    and 1 put-number-kinds.ps (falls 1 put-number-kinds.ps _<_ μ-put-number t) put-number.Pre
+
+put-number-digit-requires : (t : ℕ) → put-number-lts.Need-digit-requires (
+  digit-reads.Asked,
+  digit-reads.Learnt,
+  put-reads.Asked,
+  put-reads.Learnt,
+  put-number-below t,
+  put-number.Post,
+) (put-number-at t) put-number.Post
+put-number-digit-requires t c κs = tt
+
+put-number-slice-aggregate-put : (t : ℕ) → put-number-lts.Need-slice-aggregate-put (
+  digit-reads.Asked,
+  digit-reads.Learnt,
+  put-reads.Asked,
+  put-reads.Learnt,
+  put-number-below t,
+  put-number.Post,
+) (put-number-at t) put-number.Post
+put-number-slice-aggregate-put t c = refl
+
+put-number-put-requires : (t : ℕ) → put-number-lts.Need-put-requires (
+  digit-reads.Asked,
+  digit-reads.Learnt,
+  put-reads.Asked,
+  put-reads.Learnt,
+  put-number-below t,
+  put-number.Post,
+) (put-number-at t) put-number.Post
+put-number-put-requires t c κs =
+    let start = c .before .before .before .before .before in
+    omega (arith, start .pre .1, ap length (decimal-one (start .args .n) (c .before .before .if1 .taken)))
+
+put-number-same-length : (t : ℕ) → put-number-lts.Need-same-length (
+  digit-reads.Asked,
+  digit-reads.Learnt,
+  put-reads.Asked,
+  put-reads.Learnt,
+  put-number-below t,
+  put-number.Post,
+) (put-number-at t) put-number.Post
+put-number-same-length t c = search needs
+
+put-number-returns : (t : ℕ) → put-number-lts.Need-returns (
+  digit-reads.Asked,
+  digit-reads.Learnt,
+  put-reads.Asked,
+  put-reads.Learnt,
+  put-number-below t,
+  put-number.Post,
+) (put-number-at t) put-number.Post
+put-number-returns t c =
+    let n = c .before .before .before .before .before .before .before .before .args .n in
+    rw (decimal-one n (c .before .before .before .before .before .if1 .taken), ← c .before .before .before .before .before .before .digit .ensures) (c .before .before .put .ensures)
+
+put-number-put-number-requires : (t : ℕ) → put-number-lts.Need-put-number-requires (
+  digit-reads.Asked,
+  digit-reads.Learnt,
+  put-reads.Asked,
+  put-reads.Learnt,
+  put-number-below t,
+  put-number.Post,
+) (put-number-at t) put-number.Post
+put-number-put-number-requires t c κs =
+    let start = c .before .before .before .before in
+    let n = start .args .n in
+    let more = simp length-append at (ap length (decimal-more n (c .before .if1 .left) (omega arith))) in
+    (omega (arith, start .pre .0, c .before .if1 .left), omega (arith, start .pre .1, more))
+
+put-number-slice-aggregate-put-2 : (t : ℕ) → put-number-lts.Need-slice-aggregate-put-2 (
+  digit-reads.Asked,
+  digit-reads.Learnt,
+  put-reads.Asked,
+  put-reads.Learnt,
+  put-number-below t,
+  put-number.Post,
+) (put-number-at t) put-number.Post
+put-number-slice-aggregate-put-2 t c = refl
+
+put-number-put-requires-2 : (t : ℕ) → put-number-lts.Need-put-requires-2 (
+  digit-reads.Asked,
+  digit-reads.Learnt,
+  put-reads.Asked,
+  put-reads.Learnt,
+  put-number-below t,
+  put-number.Post,
+) (put-number-at t) put-number.Post
+put-number-put-requires-2 t c κs =
+    let start = c .before .before .before .before .before .before .before .before .before in
+    let n = start .args .n in
+    let end = c .before .before .before .before .put-number in
+    let more = simp length-append at (ap length (decimal-more n (c .before .before .before .before .before .before .if1 .left) (omega arith))) in
+    omega (arith, start .pre .1, more, end .ensures .ends, end .kept .0)
+
+put-number-same-length-2 : (t : ℕ) → put-number-lts.Need-same-length-2 (
+  digit-reads.Asked,
+  digit-reads.Learnt,
+  put-reads.Asked,
+  put-reads.Learnt,
+  put-number-below t,
+  put-number.Post,
+) (put-number-at t) put-number.Post
+put-number-same-length-2 t c = search needs
+
+put-number-returns-2 : (t : ℕ) → put-number-lts.Need-returns-2 (
+  digit-reads.Asked,
+  digit-reads.Learnt,
+  put-reads.Asked,
+  put-reads.Learnt,
+  put-number-below t,
+  put-number.Post,
+) (put-number-at t) put-number.Post
+put-number-returns-2 t c =
+    let start = c .before .before .before .before .before .before .before .before .before .before .before .before in
+    rw (decimal-more (start .args .n) (c .before .before .before .before .before .before .before .before .before .if1 .left) (omega (arith, start .fits .n)), ← c .before .before .before .before .before .before .before .before .before .before .digit .ensures)
+    (joined (c .before .before .before .before .before .before .before .put-number .ensures) (c .before .before .put2 .ensures))
+
+pub +put-number-spec : {M : Type 1} → statement M
++put-number-spec = close μ-put-number λ t. put-number-lts.spec (
+  digit-reads.Asked,
+  digit-reads.Learnt,
+  put-reads.Asked,
+  put-reads.Learnt,
+  put-number-below t,
+  put-number.Post,
+)
+    (put-number-at t)
+    put-number.Post
+    (put-number-digit-requires t)
+    (put-number-slice-aggregate-put t)
+    (put-number-put-requires t)
+    (put-number-same-length t)
+    (put-number-returns t)
+    (put-number-put-number-requires t)
+    (put-number-slice-aggregate-put-2 t)
+    (put-number-put-requires-2 t)
+    (put-number-same-length-2 t)
+    (put-number-returns-2 t)

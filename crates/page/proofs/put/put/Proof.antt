@@ -1,0 +1,81 @@
+-- The loop's invariant: the first k of the word stand in the text, and around them what was there before.
+use mathlib.Core.Path.{_≡_, refl, ap, _∙_}
+use mathlib.Core.List.{List}
+use Prim.Native.Nat.{ℕ, _+_, _-_, _≤_}
+use native.Mathlib.Numerals.{add-one}
+use native.Mathlib.Omega.{arith}
+use lib.ListN.{length, getD, set, length-set}
+use lib.Seq.{paste, paste-zero, paste-suc}
+use Rattle.record.proofs.Turn.{paste-all}
+use Rattle.page.proofs.put.put.Statement.{statement}
+use Rattle.page.proofs.put.put.Tie as tie
+
+abbrev Inv-loop : tie.InvT-loop
+Inv-loop text₀ at word k₀ k-end text k = (k ≤ length word) × (text ≡ paste text₀ at word k) × (length text ≡ length text₀)
+
+abbrev μ-loop : tie.MeasureT-loop
+μ-loop text₀ at word k₀ k-end text k = length word - k
+
+loop-holds : tie.Need-loop-holds Inv-loop μ-loop
+loop-holds c = (omega arith, paste-zero (c .args .text .now) (c .args .at) (c .args .word .now), refl)
+
+shared-slice-read-text : tie.Need-shared-slice-read-text Inv-loop μ-loop
+shared-slice-read-text c = omega arith
+
+add-text : tie.Need-add-text Inv-loop μ-loop
+add-text c = omega arith
+
+slice-write-text : tie.Need-slice-write-text Inv-loop μ-loop
+slice-write-text c = omega arith
+
+add-k : tie.Need-add-k Inv-loop μ-loop
+add-k c = omega arith
+
+loop-less : tie.Need-loop-less Inv-loop μ-loop
+loop-less c = omega arith
+
+loop-again : tie.Need-loop-again Inv-loop μ-loop
+loop-again c =
+    let text = c .before .before .before .args .text .now in
+    let word = c .before .before .before .args .word .now in
+    let at = c .before .before .before .args .at in
+    let k = c .before .before .loop .k in (
+      omega arith,
+      ap (λ (t : List ℕ). set t (at + k) (getD word k 0)) (c .before .before .loop .inv .1)
+          ∙ rw add-one (paste-suc text at word k 0 (omega arith) (omega arith)),
+      simp length-set (c .before .before .loop .inv .2),
+    )
+
+add-result : tie.Need-add-result Inv-loop μ-loop
+add-result c = omega arith
+
+same-length : tie.Need-same-length Inv-loop μ-loop
+same-length c = c .before .loop .inv .2
+
+returns : tie.Need-returns Inv-loop μ-loop
+returns c =
+    let text = c .before .before .args .text .now in
+    let word = c .before .before .args .word .now in
+    let k = c .before .loop .k in
+    record {
+      room = c .before .before .pre;
+      ends = refl;
+      text = c .before .loop .inv .1 ∙ paste-all text word (c .before .before .args .at) k (omega arith);
+    }
+
+pub put-spec : {M : Type 1} → statement M
+put-spec =
+    tie.close
+    (tie.spec
+    Inv-loop
+    μ-loop
+    loop-holds
+    shared-slice-read-text
+    add-text
+    slice-write-text
+    add-k
+    loop-less
+    loop-again
+    add-result
+    same-length
+    returns)

@@ -1,0 +1,73 @@
+-- The report is put on a page of its own, which has room for any, and copied where the text has room for it.
+use mathlib.Core.Path.{_≡_, sym, ap, _∙_}
+use mathlib.Core.List.{List}
+use Prim.Native.Nat.{ℕ}
+use native.Mathlib.Omega.{arith}
+use borrow.Author.Tests.{le-leb, lt-leb}
+use lib.ListN.{length, take}
+use Rattle.page.specs.Report.{textOf, reportOf}
+use Rattle.page.proofs.Joined.{front, front-end, front-read}
+use Rattle.page.proofs.Length.{most}
+use borrow.Author.Needs.{needs}
+use Rattle.page.proofs.write_report.Statement.{statement}
+use Rattle.page.proofs.write_report.Tie as tie
+
+abbrev bytes : tie.After-put-text → List ℕ
+bytes c = c .before .before .before .before .before .args .bytes .now
+
+-- the page has the report at its front
+length-of : (c : tie.After-put-text) → c .put-text .result ≡ length (reportOf (bytes c))
+length-of c = front-end (c .put-text .ensures) ∙ ap (λ a. length (textOf a)) (c .before .answer-of .ensures)
+
+text-of : (c : tie.After-put-text) → take (c .put-text .result) (c .put-text .last .0) ≡ reportOf (bytes c)
+text-of c = front-read (c .put-text .ensures) ∙ ap textOf (c .before .answer-of .ensures)
+
+slice-aggregate-put-text : tie.Need-slice-aggregate-put-text
+slice-aggregate-put-text c = search needs
+
+answer-of-requires : tie.Need-answer-of-requires
+answer-of-requires c κs = search needs
+
+put-text-requires : tie.Need-put-text-requires
+put-text-requires c κs = rw (c .answer-of .ensures) (most (c .before .before .before .before .args .bytes .now))
+
+returns : tie.Need-returns
+returns c =
+    let page = c .before .before in
+    let report = length-of page in
+    let short = lt-leb (length (reportOf (bytes page))) (length (c .before .before .before .before .before .before .before .args .text .now)) (omega (arith, c .if1 .taken)) in
+    (rw short, rw short)
+
+array-share-prefix-page : tie.Need-array-share-prefix-page
+array-share-prefix-page c = search needs
+
+slice-aggregate-put : tie.Need-slice-aggregate-put
+slice-aggregate-put c = let page = c .before .before .before .before in length-of page ∙ sym (ap length (text-of page))
+
+put-requires : tie.Need-put-requires
+put-requires c κs = let page = c .before .before .before .before in rw (text-of page) (omega (arith, length-of page, c .before .before .if1 .left))
+
+same-length : tie.Need-same-length
+same-length c = search needs
+
+returns-2 : tie.Need-returns-2
+returns-2 c =
+    let page = c .before .before .before .before .before .before .before in
+    let text = c .before .before .before .before .before .before .before .before .before .before .before .before .args .text .now in
+    let report = length-of page in
+    let room = le-leb (length (reportOf (bytes page))) (length text) (omega (arith, c .before .before .before .before .before .if1 .left)) in
+    (rw (room, report), rw (room, ← text-of page) (front (c .before .before .put .ensures)))
+
+pub write-report-spec : {M : Type 1} → statement M
+write-report-spec =
+    tie.close
+    (tie.spec
+    slice-aggregate-put-text
+    answer-of-requires
+    put-text-requires
+    returns
+    array-share-prefix-page
+    slice-aggregate-put
+    put-requires
+    same-length
+    returns-2)

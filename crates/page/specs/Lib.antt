@@ -1,0 +1,5 @@
+-- Definitions of the crate `page`.
+pub mod Report
+pub mod Answer
+pub mod Put
+pub mod Promise

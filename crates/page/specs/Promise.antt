@@ -1,0 +1,30 @@
+-- What is promised of every page, whatever the bytes are: it is never blank, and it is never long.
+use mathlib.Core.Path.{_≡_}
+use mathlib.Core.List.{List, [], _∷_, _++_}
+use Prim.Native.Nat.{ℕ, _-_, _≤_}
+use lib.ListN.{length, drop, replicate}
+use Rattle.record.specs.Format.{recordOf}
+use Rattle.page.specs.Report.{reportOf, newline}
+use Rattle.page.specs.Answer.{reportAnswer}
+use Rattle.page.specs.declared.ReportWritten.the-variants.{Written}
+
+-- a page is not empty, and its last byte is a newline; it has at most 99 bytes, so a text of 99 bytes is room enough
+pub record Page : Type 0 where
+  pub some : (bytes : List ℕ) → 1 ≤ length (reportOf bytes)
+  pub ended : (bytes : List ℕ) → drop (length (reportOf bytes) - 1) (reportOf bytes) ≡ newline
+  pub most : (bytes : List ℕ) → length (reportOf bytes) ≤ 99
+  pub written : (bytes : List ℕ) (room : ℕ) → 99 ≤ room → reportAnswer bytes room ≡ Written (length (reportOf bytes))
+
+-- the paper's example, line by line: 380 nm, step 1, 401 samples, all 0 but 1,000,000 at 460 nm
+abbrev pub exampleText : List ℕ
+exampleText =
+    112 ∷ 104 ∷ 111 ∷ 116 ∷ 111 ∷ 112 ∷ 105 ∷ 99 ∷ 32 ∷ 52 ∷ 48 ∷ 57 ∷ 56 ∷ 48 ∷ 10 ∷
+    115 ∷ 99 ∷ 111 ∷ 116 ∷ 111 ∷ 112 ∷ 105 ∷ 99 ∷ 32 ∷ 57 ∷ 54 ∷ 51 ∷ 57 ∷ 48 ∷ 48 ∷ 10 ∷
+    88 ∷ 32 ∷ 49 ∷ 57 ∷ 56 ∷ 54 ∷ 49 ∷ 54 ∷ 10 ∷
+    89 ∷ 32 ∷ 52 ∷ 48 ∷ 57 ∷ 56 ∷ 48 ∷ 10 ∷
+    90 ∷ 32 ∷ 49 ∷ 49 ∷ 52 ∷ 48 ∷ 48 ∷ 54 ∷ 52 ∷ 10 ∷
+    120 ∷ 32 ∷ 48 ∷ 46 ∷ 49 ∷ 52 ∷ 51 ∷ 57 ∷ 54 ∷ 10 ∷
+    121 ∷ 32 ∷ 48 ∷ 46 ∷ 48 ∷ 50 ∷ 57 ∷ 55 ∷ 48 ∷ 10 ∷ []
+
+pub record Example : Type 0 where
+  pub page : reportOf (recordOf 380 1 (replicate 80 0 ++ 1000000 ∷ replicate 320 0)) ≡ exampleText

@@ -1,0 +1,49 @@
+// The report page: what a record says of its light, as text.
+ghost use mathlib.Core.Path.{_≡_};
+ghost use lib.ListN.{length};
+ghost use Rattle.page.specs.Report.{answerOf};
+ghost use Rattle.page.specs.Answer.{reportAnswer, textAfter};
+use grid::Refusal;
+use readings::report::FiguresAnswer;
+use record::RecordRead;
+
+mod lines;
+pub mod promise;
+mod put;
+
+// What writing a report gives: the number of bytes written.
+pub enum ReportWritten {
+    Written(usize),
+    Refused(Refusal),
+}
+
+// Writes a record's report to the front of the lent text: ROOM. A refused record has a report too, so 99 bytes are always room enough.
+pub fn write_report(bytes: &[u8], text: &mut [u8]) -> ReportWritten
+    ensures { λ r. ⌜ r ≡ reportAnswer (now (bytes .entry)) (length (now (text .entry))) ⌝ }
+    ensures { λ _. ⌜ now (text .exit) ≡ textAfter (now (bytes .entry)) (now (text .entry)) ⌝ }
+{
+    let mut page = [0u8; 99];
+    let length = lines::put_text(&mut page, answer_of(bytes));
+    if text.len() < length {
+        return ReportWritten::Refused(Refusal {
+            number: 14,
+            place: 0,
+        });
+    }
+    put::put(text, 0, &page[..length]);
+    ReportWritten::Written(length)
+}
+
+// The figures of the record's spectrum, or the refusal of the record.
+fn answer_of(bytes: &[u8]) -> FiguresAnswer
+    ensures { λ r. ⌜ r ≡ answerOf (now (bytes .entry)) ⌝ }
+{
+    let mut row = [0u32; 531];
+    match record::read_record(bytes, &mut row) {
+        RecordRead::Read(said) => {
+            let count = said.count;
+            readings::report::figures(said.start, said.step, &row[..count])
+        }
+        RecordRead::Refused(refusal) => FiguresAnswer::Refused(refusal),
+    }
+}

@@ -1,0 +1,12 @@
+// The promises of the page: theorems about the definition, each with a function that stands for it.
+ghost use Rattle.page.specs.Promise.{Page, Example};
+
+// Whatever the bytes are, the page is not blank, ends with a newline and has at most 99 bytes.
+pub fn page()
+    ensures { λ _. ⌜ Page ⌝ }
+{}
+
+// The document's own example.
+pub fn example()
+    ensures { λ _. ⌜ Example ⌝ }
+{}
