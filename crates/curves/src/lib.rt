@@ -1,4 +1,4 @@
-// The CIE tables from 360 to 830 nm: what stands at a place, and the weighted sum of a row of light.
+// The CIE tables from 360 to 830 nm: what stands at a place, the weighted sum of a row of light, and a row under an illuminant.
 pub mod lit;
 mod tables;
 pub mod weigh;

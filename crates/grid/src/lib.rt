@@ -1,4 +1,4 @@
-// Refusals, and the checks that every spectrum, panel and record shares: step, start, count, and the limit of a sample.
+// Refusals, and the checks that every spectrum, panel and record shares: step, start, count, observer, and the limit of a sample.
 ghost use mathlib.Core.Path.{_≡_};
 ghost use mathlib.Core.Bool.{true};
 ghost use Rattle.grid.specs.Check.{gridCheck, isStep, isStart, isCount, isObserver, refusal, limitCheck, samplesCheck, Within};
