@@ -17,8 +17,12 @@ use Rattle.record.specs.declared.RecordRead.{RecordRead}
 use Rattle.record.specs.declared.RecordWritten.{RecordWritten}
 use Rattle.record.specs.Answer.{header, headerCheck, bodyCheck, recordCheck, readAnswer, spectrumCheck, writeAnswer}
 use Rattle.record.proofs.Refusals.{header-fine}
+use Rattle.page.specs.declared.ReportWritten.{ReportWritten}
+use Rattle.page.specs.Report.{reportOf}
+use Rattle.page.specs.Answer.{reportAnswer}
+use Rattle.page.proofs.Length.{most}
 use Rattle.quailribbon.specs.Flat.{value}
-use Rattle.quailribbon.specs.Records.{saidRead, saidWritten}
+use Rattle.quailribbon.specs.Records.{saidRead, saidWritten, saidReported}
 
 header-place : (bytes : List ℕ) → placeOf (headerCheck bytes) ≤ 0
 unfolding headerCheck
@@ -96,3 +100,15 @@ written-small a s xs room = go (spectrumCheck a s xs) refl (leb (lengthOf (lengt
     go Fine e true = let n = spectrum-place a s xs .1 e in omega arith
     go Fine e false = omega arith
     go (Refused r) e b = let p = rw e at (spectrum-place a s xs .0) in omega arith
+
+pub reported-small :
+    (bytes : List ℕ) (room : ℕ) →
+    (saidReported (reportAnswer bytes room) .place < 2 ^ 32) × (value (saidReported (reportAnswer bytes room)) 0 < 2 ^ 32)
+reported-small bytes room = go (leb (length (reportOf bytes)) room)
+  where
+    go :
+        (b : Bool) →
+        (saidReported (unless (require b 14 Fine) ReportWritten.Refused (ReportWritten.Written (length (reportOf bytes)))) .place < 2 ^ 32)
+        × (value (saidReported (unless (require b 14 Fine) ReportWritten.Refused (ReportWritten.Written (length (reportOf bytes))))) 0 < 2 ^ 32)
+    go true = let n = most bytes in omega arith
+    go false = omega arith

@@ -4,6 +4,7 @@ use answers::OnChart;
 use answers::Reading;
 use answers::XyAnswer;
 use answers::XyzAnswer;
+use page::ReportWritten;
 use readings::report::FiguresAnswer;
 use record::RecordRead;
 use record::RecordWritten;
@@ -13,7 +14,7 @@ ghost use Prim.Native.Nat.{_^_, _<_};
 ghost use lib.ListN.{getD};
 ghost use Rattle.readings.specs.Figures.{saidFigures, colourValues};
 ghost use Rattle.quailribbon.specs.Flat.{value, flatReading, flatXyz, flatXy, flatChart, flatFigures};
-ghost use Rattle.quailribbon.specs.Records.{saidRead, saidWritten, flatRecord, flatWritten};
+ghost use Rattle.quailribbon.specs.Records.{saidRead, saidWritten, saidReported, flatRecord, flatWritten};
 
 #[repr(C)]
 pub struct QrReading {
@@ -268,6 +269,24 @@ pub fn flat_written(answer: RecordWritten) -> QrWritten
             length: length as u32,
         },
         RecordWritten::Refused(refusal) => QrWritten {
+            number: refusal.number,
+            place: refusal.place as u32,
+            length: 0,
+        },
+    }
+}
+
+pub fn flat_reported(answer: ReportWritten) -> QrWritten
+    requires { ⌜ (saidReported answer .place < 2 ^ 32) × (value (saidReported answer) 0 < 2 ^ 32) ⌝ }
+    ensures { λ r. ⌜ r ≡ flatWritten (saidReported answer) ⌝ }
+{
+    match answer {
+        ReportWritten::Written(length) => QrWritten {
+            number: 0,
+            place: 0,
+            length: length as u32,
+        },
+        ReportWritten::Refused(refusal) => QrWritten {
             number: refusal.number,
             place: refusal.place as u32,
             length: 0,

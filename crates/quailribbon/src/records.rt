@@ -1,12 +1,14 @@
-// Reading and writing a packed record, for C.
+// Reading, writing and reporting a packed record, for C.
 use crate::flat::QrRecord;
 use crate::flat::QrWritten;
 use crate::flat::flat_record;
+use crate::flat::flat_reported;
 use crate::flat::flat_written;
 ghost use mathlib.Core.Path.{_≡_};
 ghost use lib.ListN.{length};
 ghost use Rattle.record.specs.Answer.{readAnswer, rowAfter, writeAnswer, bytesAfter};
-ghost use Rattle.quailribbon.specs.Records.{saidRead, saidWritten, flatRecord, flatWritten};
+ghost use Rattle.page.specs.Answer.{reportAnswer, textAfter};
+ghost use Rattle.quailribbon.specs.Records.{saidRead, saidWritten, saidReported, flatRecord, flatWritten};
 
 #[no_mangle]
 pub extern "C" fn qr_read_record(bytes: &[u8], samples: &mut [u32]) -> QrRecord
@@ -27,4 +29,12 @@ pub extern "C" fn qr_write_record(
     ensures { λ _. ⌜ now (bytes .exit) ≡ bytesAfter start step (now (samples .entry)) (now (bytes .entry)) ⌝ }
 {
     flat_written(record::write_record(start, step, samples, bytes))
+}
+
+#[no_mangle]
+pub extern "C" fn qr_report(bytes: &[u8], text: &mut [u8]) -> QrWritten
+    ensures { λ r. ⌜ r ≡ flatWritten (saidReported (reportAnswer (now (bytes .entry)) (length (now (text .entry))))) ⌝ }
+    ensures { λ _. ⌜ now (text .exit) ≡ textAfter (now (bytes .entry)) (now (text .entry)) ⌝ }
+{
+    flat_reported(page::write_report(bytes, text))
 }
