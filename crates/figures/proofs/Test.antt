@@ -12,7 +12,7 @@ use Rattle.mixing.specs.Sum.{total, weighted}
 use Rattle.mixing.specs.Mixture.{mix}
 use Rattle.curves.specs.Tables.{xBar, yBar, zBar, xBar10, yBar10, zBar10, vPrime, illuminantA, illuminantD65}
 use Rattle.curves.specs.Curves.{table}
-use Rattle.spectrum.specs.Light.{lightCheck}
+use Rattle.grid.specs.Check.{lightCheck}
 use Rattle.spectrum.specs.Line.{lineAt, endRule, W, T as T′}
 use Rattle.answers.specs.Worked.{readingFrom, xyzFrom, xyFrom}
 use Rattle.panel.specs.Panel.{surfaceCheck, panelCheck, whiteSum, panelXyzOf, panelXyOf}

@@ -2,3 +2,4 @@
 pub mod Limit
 pub mod Accepted
 pub mod Place
+pub mod Light

@@ -2,7 +2,7 @@
 use mathlib.Core.Bool.{Bool, true, false, cond, _&&_, _||_}
 use mathlib.Core.List.{List, [], _∷_}
 use Prim.Native.Nat.{ℕ, suc, _+_, _*_, _-_, _≤_}
-use lib.ListN.{getD}
+use lib.ListN.{length, getD}
 use lib.Dec.{leb, ltb, eqb}
 use Rattle.grid.specs.declared.Refusal.{Refusal}
 use Rattle.grid.specs.declared.Check.{Check}
@@ -56,6 +56,10 @@ Within limit xs = (k : ℕ) → getD xs k 0 ≤ limit
 -- SAMPLE: a sample above 1,000,000
 abbrev pub samplesCheck : List ℕ → Check
 samplesCheck xs = limitCheck 4 1000000 0 xs
+
+-- the checks of a light: STEP, START, COUNT, then SAMPLE
+unfoldable pub lightCheck : ℕ → ℕ → List ℕ → Check
+lightCheck a s xs = unless (gridCheck a s (length xs)) Refused (samplesCheck xs)
 
 -- REFLECTANCE: a reflectance above 10,000
 abbrev pub reflectancesCheck : List ℕ → Check

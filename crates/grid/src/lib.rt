@@ -1,7 +1,7 @@
 // Refusals, and the checks that every spectrum, panel and record shares: step, start, count, observer, and the limit of a sample.
 ghost use mathlib.Core.Path.{_≡_};
 ghost use mathlib.Core.Bool.{true};
-ghost use Rattle.grid.specs.Check.{gridCheck, isStep, isStart, isCount, isObserver, refusal, limitCheck, samplesCheck, Within};
+ghost use Rattle.grid.specs.Check.{gridCheck, isStep, isStart, isCount, isObserver, refusal, limitCheck, samplesCheck, lightCheck, Within};
 
 // A refusal's number, and the place of the first faulty sample for 4 and 8 (else 0).
 pub struct Refusal {
@@ -84,6 +84,17 @@ pub fn is_observer(observer: u32) -> bool
         return true;
     }
     observer == 10
+}
+
+// STEP, START, COUNT, SAMPLE, in this order.
+pub fn check_light(start: u32, step: u32, samples: &[u32]) -> Check
+    ensures { λ r. ⌜ r ≡ lightCheck start step (now (samples .entry)) ⌝ }
+{
+    let on_grid = check_grid(start, step, samples.len());
+    match on_grid {
+        Check::Fine => check_samples(samples),
+        Check::Refused(refusal) => Check::Refused(refusal),
+    }
 }
 
 // SAMPLE at the first sample above 1,000,000.

@@ -23,7 +23,7 @@ use Rattle.answers.specs.Worked.{isFitting, readingFrom, xyzFrom, xyFrom}
 use Rattle.readings.specs.declared.report.ReportFigures.{ReportFigures}
 use Rattle.readings.specs.declared.report.FiguresAnswer.{FiguresAnswer}
 use Rattle.readings.specs.Readings.{illuminanceOf, photopicOf, scotopicOf, colourCheck, xyzOf, xyOf, together, figuresOf}
-use Rattle.spectrum.specs.Light.{lightCheck}
+use Rattle.grid.specs.Check.{lightCheck}
 use Rattle.record.specs.Format.{startOf, stepOf, countOf, samplesOf}
 use Rattle.record.specs.Answer.{recordCheck}
 use Rattle.page.specs.Report.{answerOf}

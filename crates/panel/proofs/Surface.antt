@@ -9,7 +9,8 @@ use Rattle.grid.proofs.Limit.{passed, fine-within}
 use Rattle.grid.proofs.Accepted.{OnGrid, accepted}
 use Rattle.curves.specs.Split.{Reflected}
 use Rattle.spectrum.specs.Line.{rowOf}
-use Rattle.spectrum.proofs.Light.{both-fine, row-within}
+use Rattle.grid.proofs.Light.{both-fine}
+use Rattle.spectrum.proofs.Light.{row-within}
 use Rattle.panel.specs.Panel.{isIlluminant, surfaceCheck, panelCheck}
 
 pub surface-fine : (o i a s : ℕ) (rs : List ℕ) → panelCheck o i a s rs ≡ Fine → surfaceCheck a s rs ≡ Fine

@@ -9,13 +9,14 @@ use lib.ListN.{length, drop, length-take}
 use lib.Dec.{leb, eqb}
 use Rattle.grid.specs.declared.Check.{Check}
 use Rattle.grid.specs.declared.Check.the-variants.{Fine, Refused}
-use Rattle.grid.specs.Check.{require, unless, gridCheck, samplesCheck}
+use Rattle.grid.specs.Check.{require, unless, gridCheck, samplesCheck, lightCheck}
+use Rattle.grid.proofs.Light.{on-grid, light-place}
 use Rattle.grid.proofs.Accepted.{accepted}
 use Rattle.grid.proofs.Place.{placeOf, require-place, grid-place, limit-place}
 use Rattle.record.specs.Format.{editionOf, reservedOf, startOf, stepOf, countOf, fieldsOf, samplesOf, paddingOf, lengthOf}
 use Rattle.record.specs.declared.RecordRead.{RecordRead}
 use Rattle.record.specs.declared.RecordWritten.{RecordWritten}
-use Rattle.record.specs.Answer.{header, headerCheck, bodyCheck, recordCheck, readAnswer, spectrumCheck, writeAnswer}
+use Rattle.record.specs.Answer.{header, headerCheck, bodyCheck, recordCheck, readAnswer, writeAnswer}
 use Rattle.record.proofs.Refusals.{header-fine}
 use Rattle.page.specs.declared.ReportWritten.{ReportWritten}
 use Rattle.page.specs.Report.{reportOf}
@@ -73,33 +74,22 @@ read-small bytes room = go (recordCheck bytes) refl (leb (countOf bytes) room)
     go Fine e false = omega arith
     go (Refused r) e b = let p = rw e at (record-place bytes .0) in omega arith
 
-spectrum-place : (a s : ℕ) (xs : List ℕ) → (placeOf (spectrumCheck a s xs) ≤ 531) × (spectrumCheck a s xs ≡ Fine → length xs ≤ 531)
-unfolding spectrumCheck
-spectrum-place a s xs = go (gridCheck a s (length xs)) refl
-  where
-    go :
-        (c : Check) → gridCheck a s (length xs) ≡ c →
-        (placeOf (unless c Refused (samplesCheck xs)) ≤ 531) × (unless c Refused (samplesCheck xs) ≡ Fine → length xs ≤ 531)
-    go Fine e =
-        let many = accepted a s (length xs) e .many in
-        let p = limit-place 4 1000000 0 xs in
-        (omega arith, λ _. many)
-    go (Refused r) e =
-        let p = rw e at (grid-place a s (length xs)) in
-        (omega arith, λ f. absurd (let z : _≡_ {A = ℕ} 0 1 = cc in omega arith))
+-- an accepted light has no more samples
+light-few : (a s : ℕ) (xs : List ℕ) → lightCheck a s xs ≡ Fine → length xs ≤ 531
+light-few a s xs fine = on-grid a s xs fine .many
 
 pub written-small :
     (a s : ℕ) (xs : List ℕ) (room : ℕ) →
     (saidWritten (writeAnswer a s xs room) .place < 2 ^ 32) × (value (saidWritten (writeAnswer a s xs room)) 0 < 2 ^ 32)
-written-small a s xs room = go (spectrumCheck a s xs) refl (leb (lengthOf (length xs)) room)
+written-small a s xs room = go (lightCheck a s xs) refl (leb (lengthOf (length xs)) room)
   where
     go :
-        (c : Check) → spectrumCheck a s xs ≡ c → (b : Bool) →
+        (c : Check) → lightCheck a s xs ≡ c → (b : Bool) →
         (saidWritten (unless (unless c Refused (require b 14 Fine)) RecordWritten.Refused (RecordWritten.Written (lengthOf (length xs)))) .place < 2 ^ 32)
         × (value (saidWritten (unless (unless c Refused (require b 14 Fine)) RecordWritten.Refused (RecordWritten.Written (lengthOf (length xs))))) 0 < 2 ^ 32)
-    go Fine e true = let n = spectrum-place a s xs .1 e in omega arith
+    go Fine e true = let n = light-few a s xs e in omega arith
     go Fine e false = omega arith
-    go (Refused r) e b = let p = rw e at (spectrum-place a s xs .0) in omega arith
+    go (Refused r) e b = let p = rw e at (light-place a s xs) in omega arith
 
 pub reported-small :
     (bytes : List ℕ) (room : ℕ) →

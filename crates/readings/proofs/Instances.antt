@@ -16,9 +16,9 @@ use Rattle.mixing.proofs.Mixture.{length-mix, getD-mix, linear-plus, linear-tim
 use Rattle.curves.specs.declared.Curve.{Curve}
 use Rattle.curves.specs.declared.Curve.the-variants.{XBar, YBar, ZBar, XBar10, YBar10, ZBar10, VPrime}
 use Rattle.curves.specs.Curves.{weightOf}
-use Rattle.spectrum.specs.Light.{lightCheck}
+use Rattle.grid.specs.Check.{lightCheck}
 use Rattle.spectrum.proofs.Measured.{W-linear}
-use Rattle.spectrum.proofs.Light.{grid-fine, on-grid}
+use Rattle.grid.proofs.Light.{grid-fine, on-grid}
 use Rattle.answers.specs.Said.{saidReading, saidXyz, saidXy}
 use Rattle.answers.specs.Sums.{ofObserver}
 use Rattle.answers.proofs.Mixed.{reading-unit, reading-order, xyz-unit, xyz-order, xy-between, xy-one-dark}

@@ -8,8 +8,8 @@ use Rattle.grid.specs.Check.{isObserver}
 use Rattle.grid.proofs.Place.{placeOf, require-place}
 use Rattle.curves.specs.declared.Curve.{Curve}
 use Rattle.curves.specs.declared.Curve.the-variants.{YBar, VPrime}
-use Rattle.spectrum.specs.Light.{lightCheck}
-use Rattle.spectrum.proofs.Light.{light-place}
+use Rattle.grid.specs.Check.{lightCheck}
+use Rattle.grid.proofs.Light.{light-place}
 use Rattle.answers.specs.declared.Reading.{Reading}
 use Rattle.answers.specs.declared.XyzAnswer.{XyzAnswer}
 use Rattle.answers.specs.declared.XyAnswer.{XyAnswer}

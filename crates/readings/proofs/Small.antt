@@ -10,7 +10,7 @@ use Rattle.grid.proofs.Limit.{passed}
 use Rattle.curves.specs.declared.Curve.{Curve}
 use Rattle.curves.specs.declared.Curve.the-variants.{XBar, YBar, ZBar, XBar10, YBar10, ZBar10}
 use Rattle.curves.proofs.Sums.{light-sum}
-use Rattle.spectrum.specs.Light.{lightCheck}
+use Rattle.grid.specs.Check.{lightCheck}
 use Rattle.spectrum.specs.Line.{rowOf}
 use Rattle.spectrum.proofs.Light.{row-small, row-weighed}
 use Rattle.answers.specs.Sums.{ofObserver}

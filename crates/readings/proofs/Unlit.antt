@@ -15,7 +15,7 @@ use Rattle.mixing.proofs.Nearest.{nearest-none}
 use Rattle.curves.specs.declared.Curve.{Curve}
 use Rattle.curves.specs.declared.Curve.the-variants.{XBar, YBar, ZBar, XBar10, YBar10, ZBar10, VPrime}
 use Rattle.curves.specs.Curves.{weightOf}
-use Rattle.spectrum.specs.Light.{lightCheck}
+use Rattle.grid.specs.Check.{lightCheck}
 use Rattle.spectrum.specs.Line.{lineAt, isMeasured, endRule, T, W}
 use Rattle.answers.specs.declared.OnChart.{OnChart}
 use Rattle.answers.specs.declared.Reading.{Reading}

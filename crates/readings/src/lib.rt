@@ -12,13 +12,13 @@ use exact::digits::joined;
 use exact::digits::short_times_plus;
 use grid::Check;
 use grid::Refusal;
-use spectrum::check_light;
+use grid::check_light;
 use spectrum::line::row_of;
 ghost use mathlib.Core.Path.{_≡_};
 ghost use Prim.Native.Nat.{_+_, _*_, _-_, _^_, _≤_};
 ghost use Rattle.exact.specs.Value.{short};
 ghost use Rattle.grid.specs.declared.Check.the-variants.{Fine};
-ghost use Rattle.spectrum.specs.Light.{lightCheck};
+ghost use Rattle.grid.specs.Check.{lightCheck};
 ghost use Rattle.answers.specs.Worked.{readingFrom};
 ghost use Rattle.readings.specs.Readings.{illuminanceOf, photopicOf, scotopicOf, photopic10Of, mesopicOf, mesopicSum, mesopicDivisor};
 

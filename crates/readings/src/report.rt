@@ -14,13 +14,13 @@ use curves::weigh::weigh;
 use exact::digits::Short;
 use grid::Check;
 use grid::Refusal;
-use spectrum::check_light;
+use grid::check_light;
 use spectrum::line::row_of;
 ghost use mathlib.Core.Path.{_≡_};
 ghost use Prim.Native.Nat.{_+_, _*_, _^_, _<_};
 ghost use Rattle.exact.specs.Value.{short};
 ghost use Rattle.grid.specs.declared.Check.the-variants.{Fine};
-ghost use Rattle.spectrum.specs.Light.{lightCheck};
+ghost use Rattle.grid.specs.Check.{lightCheck};
 ghost use Rattle.answers.specs.Worked.{readingFrom, xyzFrom, xyFrom};
 ghost use Rattle.readings.specs.Readings.{together, figuresOf};
 

@@ -10,19 +10,20 @@ use lib.Seq.{take-at}
 use Rattle.grid.specs.declared.Check.the-variants.{Fine}
 use Rattle.record.specs.Bits.{pack, bytewise, Bytes}
 use Rattle.record.specs.Format.{headerWidths, bodyWidths, headerFields, bodyFields, lengthOf, recordOf, startOf, stepOf, countOf, samplesOf}
-use Rattle.record.specs.Answer.{spectrumCheck, recordCheck, readCheck, roomCheck, header, readAnswer, rowAfter, writeAnswer, bytesAfter}
+use Rattle.grid.specs.Check.{lightCheck}
+use Rattle.record.specs.Answer.{recordCheck, readCheck, roomCheck, header, readAnswer, rowAfter, writeAnswer, bytesAfter}
 use Rattle.record.specs.Promise.{ReadBack, WrittenBack, OneToOne, Length}
 use Rattle.record.specs.declared.Header.{Header}
 use Rattle.record.specs.declared.RecordRead.the-variants.{Read}
 use Rattle.record.specs.declared.RecordWritten.the-variants.{Written}
 use Rattle.record.proofs.Rows.{row-fits, fit-cut, packed-bits}
 use Rattle.record.proofs.Fields.{samples-length}
-use Rattle.record.proofs.Accepted.{both-fine, on-grid}
+use Rattle.grid.proofs.Light.{both-fine, on-grid}
 use Rattle.record.proofs.Reading.{record-fine, answer-read}
 use Rattle.record.proofs.Round.{length-record, start-back, step-back, count-back, samples-back, record-accepted, spectrum-accepted, bytes-again}
 
 -- an accepted spectrum, where there is room
-module _ (a s : ℕ) (xs : List ℕ) (fine : spectrumCheck a s xs ≡ Fine) where
+module _ (a s : ℕ) (xs : List ℕ) (fine : lightCheck a s xs ≡ Fine) where
   written :
       (bytes : List ℕ) → lengthOf (length xs) ≤ length bytes →
       (writeAnswer a s xs (length bytes) ≡ Written (lengthOf (length xs)))
@@ -110,11 +111,11 @@ record-bytes a s xs =
 pub exact-length : Length
 exact-length = record { bytes = record-bytes; exact = length-record; least = least; most = most }
   where
-    least : (a s : ℕ) (xs : List ℕ) → spectrumCheck a s xs ≡ Fine → 106 ≤ lengthOf (length xs)
+    least : (a s : ℕ) (xs : List ℕ) → lightCheck a s xs ≡ Fine → 106 ≤ lengthOf (length xs)
     least a s xs fine =
         let grid = on-grid a s xs fine in
         let more : s * (length xs - 1) ≤ 10 * (length xs - 1) = mul-le-mul-right (length xs - 1) (grid .step-high) in
         omega arith
 
-    most : (a s : ℕ) (xs : List ℕ) → spectrumCheck a s xs ≡ Fine → lengthOf (length xs) ≤ 1331
+    most : (a s : ℕ) (xs : List ℕ) → lightCheck a s xs ≡ Fine → lengthOf (length xs) ≤ 1331
     most a s xs fine = let grid = on-grid a s xs fine in omega arith

@@ -14,7 +14,7 @@ use Rattle.record.specs.Answer.{headerCheck, bodyCheck, recordCheck, rea
 use Rattle.record.specs.declared.Header.{Header}
 use Rattle.record.specs.declared.RecordRead.the-variants as read
 use Rattle.record.specs.Leaf.{restCheck}
-use Rattle.record.proofs.Accepted.{both-fine}
+use Rattle.grid.proofs.Light.{both-fine}
 use Rattle.record.proofs.Refusals.{HeaderFine, BodyFine, header-fine, body-fine}
 
 pub record-fine : (bytes : List ℕ) → recordCheck bytes ≡ Fine → HeaderFine bytes × BodyFine (countOf bytes) bytes

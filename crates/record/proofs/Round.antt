@@ -13,10 +13,12 @@ use Rattle.grid.specs.declared.Check.the-variants.{Fine}
 use Rattle.grid.proofs.Accepted.{step-cases}
 use Rattle.record.specs.Bits.{pack, cut, bytewise, bitsOfBytes, Bytes}
 use Rattle.record.specs.Format.{headerWidths, bodyWidths, headerFields, bodyFields, codeOf, stepOfCode, lengthOf, recordOf, headerOf, fieldsOf, startOf, stepOf, countOf, samplesOf, paddingOf}
-use Rattle.record.specs.Answer.{spectrumCheck, recordCheck}
+use Rattle.grid.specs.Check.{lightCheck}
+use Rattle.record.specs.Answer.{recordCheck}
 use Rattle.record.proofs.Rows.{Fit, total, total-append, total-replicate, fit-append, fit-row, fit-zeros, fit-cut, packed-bits, length-cut, regroup}
 use Rattle.record.proofs.Fields.{length-header, fields-split, body-split, samples-cut, samples-length, padding-cut, five-halves}
-use Rattle.record.proofs.Accepted.{on-grid, within, fit-header, spectrum-fine}
+use Rattle.grid.proofs.Light.{grid-fine, samples-fine, within, on-grid}
+use Rattle.record.proofs.Accepted.{fit-header}
 use Rattle.record.proofs.Reading.{record-fine, accept}
 
 -- the fields of n samples fill whole bytes
@@ -49,7 +51,7 @@ no-padding zero = refl
 no-padding (suc o) = refl
 
 -- the record of an accepted spectrum
-module _ (a s : ℕ) (xs : List ℕ) (fine : spectrumCheck a s xs ≡ Fine) where
+module _ (a s : ℕ) (xs : List ℕ) (fine : lightCheck a s xs ≡ Fine) where
   fields-fit : Fit (headerWidths ++ bodyWidths (length xs)) (headerFields a s (length xs) ++ bodyFields xs)
   fields-fit =
       let n = length xs in
@@ -104,9 +106,9 @@ module _ (a s : ℕ) (xs : List ℕ) (fine : spectrumCheck a s xs ≡ Fine) wher
         long = rw length-record (omega arith);
         edition = ap (λ (h : List ℕ). getD h 0 0) header-back;
         reserved = ap (λ (h : List ℕ). getD h 4 0) header-back;
-        grid = rw (start-back, step-back, count-back) (spectrum-fine a s xs fine .0);
+        grid = rw (start-back, step-back, count-back) (grid-fine a s xs fine);
       }
-      (rw count-back record { whole = length-record a s xs; padding = padding-back; samples = rw samples-back (spectrum-fine a s xs fine .1) })
+      (rw count-back record { whole = length-record a s xs; padding = padding-back; samples = rw samples-back (samples-fine a s xs fine) })
 
 -- padding that is 0 where there is some is a row of zeros
 padding-zeros : (o : ℕ) (bits : List ℕ) → o < 2 → getD (cut (replicate o 4) bits) 0 0 ≡ 0 → cut (replicate o 4) bits ≡ replicate o 0
@@ -117,8 +119,8 @@ padding-zeros (suc (suc o)) bits h e = absurd (omega arith)
 
 -- an accepted record
 module _ (bytes : List ℕ) (fine : recordCheck bytes ≡ Fine) where
-  pub spectrum-accepted : spectrumCheck (startOf bytes) (stepOf bytes) (samplesOf (countOf bytes) bytes) ≡ Fine
-  unfolding spectrumCheck
+  pub spectrum-accepted : lightCheck (startOf bytes) (stepOf bytes) (samplesOf (countOf bytes) bytes) ≡ Fine
+  unfolding lightCheck
   spectrum-accepted =
       let n = countOf bytes in
       let e = samples-length n bytes in

@@ -3,7 +3,7 @@ use mathlib.Core.List.{List, _++_}
 use Prim.Native.Nat.{ℕ}
 use lib.ListN.{length, drop}
 use lib.Dec.{leb, eqb}
-use Rattle.grid.specs.Check.{require, unless, gridCheck, samplesCheck}
+use Rattle.grid.specs.Check.{require, unless, gridCheck, samplesCheck, lightCheck}
 use Rattle.grid.specs.declared.Check.{Check}
 use Rattle.grid.specs.declared.Check.the-variants.{Fine, Refused}
 use Rattle.record.specs.Format.{editionOf, reservedOf, startOf, stepOf, countOf, samplesOf, paddingOf, lengthOf, recordOf}
@@ -55,13 +55,9 @@ readAnswer bytes room = unless (readCheck bytes room) read.Refused (read.Read (h
 abbrev pub rowAfter : List ℕ → List ℕ → List ℕ
 rowAfter bytes row = unless (readCheck bytes (length row)) (λ _. row) (samplesOf (countOf bytes) bytes ++ drop (countOf bytes) row)
 
--- STEP, START, COUNT, SAMPLE
-unfoldable pub spectrumCheck : ℕ → ℕ → List ℕ → Check
-spectrumCheck a s xs = thenCheck (gridCheck a s (length xs)) (samplesCheck xs)
-
 -- for writing: 1, 2, 3, 4, 14
 abbrev pub writeCheck : ℕ → ℕ → List ℕ → ℕ → Check
-writeCheck a s xs room = thenCheck (spectrumCheck a s xs) (roomCheck (lengthOf (length xs)) room)
+writeCheck a s xs room = thenCheck (lightCheck a s xs) (roomCheck (lengthOf (length xs)) room)
 
 -- the length written, or the refusal
 abbrev pub writeAnswer : ℕ → ℕ → List ℕ → ℕ → RecordWritten

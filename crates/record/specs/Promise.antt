@@ -6,7 +6,8 @@ use lib.ListN.{length, take, drop, replicate}
 use Rattle.grid.specs.declared.Check.the-variants.{Fine}
 use Rattle.record.specs.Bits.{Bytes}
 use Rattle.record.specs.Format.{lengthOf, recordOf}
-use Rattle.record.specs.Answer.{spectrumCheck, header, readAnswer, rowAfter, writeAnswer, bytesAfter}
+use Rattle.grid.specs.Check.{lightCheck}
+use Rattle.record.specs.Answer.{header, readAnswer, rowAfter, writeAnswer, bytesAfter}
 use Rattle.record.specs.declared.Header.{Header}
 use Rattle.record.specs.declared.RecordRead.the-variants.{Read}
 use Rattle.record.specs.declared.RecordWritten.the-variants.{Written}
@@ -14,11 +15,11 @@ use Rattle.record.specs.declared.RecordWritten.the-variants.{Written}
 -- an accepted spectrum is written where there is room, and reading its record gives it back
 pub record ReadBack : Type 0 where
   pub written :
-      (a s : ℕ) (xs bytes : List ℕ) → spectrumCheck a s xs ≡ Fine → lengthOf (length xs) ≤ length bytes →
+      (a s : ℕ) (xs bytes : List ℕ) → lightCheck a s xs ≡ Fine → lengthOf (length xs) ≤ length bytes →
       (writeAnswer a s xs (length bytes) ≡ Written (lengthOf (length xs)))
       × (bytesAfter a s xs bytes ≡ recordOf a s xs ++ drop (lengthOf (length xs)) bytes)
   pub read :
-      (a s : ℕ) (xs row : List ℕ) → spectrumCheck a s xs ≡ Fine → length xs ≤ length row →
+      (a s : ℕ) (xs row : List ℕ) → lightCheck a s xs ≡ Fine → length xs ≤ length row →
       (readAnswer (recordOf a s xs) (length row) ≡ Read (header a s (length xs)))
       × (rowAfter (recordOf a s xs) row ≡ xs ++ drop (length xs) row)
 
@@ -42,11 +43,11 @@ pub record OneToOne : Type 0 where
 pub record Length : Type 0 where
   pub bytes : (a s : ℕ) (xs : List ℕ) → Bytes (recordOf a s xs)
   pub exact : (a s : ℕ) (xs : List ℕ) → length (recordOf a s xs) ≡ lengthOf (length xs)
-  pub least : (a s : ℕ) (xs : List ℕ) → spectrumCheck a s xs ≡ Fine → 106 ≤ lengthOf (length xs)
-  pub most : (a s : ℕ) (xs : List ℕ) → spectrumCheck a s xs ≡ Fine → lengthOf (length xs) ≤ 1331
+  pub least : (a s : ℕ) (xs : List ℕ) → lightCheck a s xs ≡ Fine → 106 ≤ lengthOf (length xs)
+  pub most : (a s : ℕ) (xs : List ℕ) → lightCheck a s xs ≡ Fine → lengthOf (length xs) ≤ 1331
 
 -- 380 nm, step 1, 401 samples, all 0 but 1,000,000 at 460 nm: the record has 1,006 bytes and begins hex 12 83 22
 pub record Example : Type 0 where
-  pub accepted : spectrumCheck 380 1 (replicate 80 0 ++ 1000000 ∷ replicate 320 0) ≡ Fine
+  pub accepted : lightCheck 380 1 (replicate 80 0 ++ 1000000 ∷ replicate 320 0) ≡ Fine
   pub length : length (recordOf 380 1 (replicate 80 0 ++ 1000000 ∷ replicate 320 0)) ≡ 1006
   pub begins : take 3 (recordOf 380 1 (replicate 80 0 ++ 1000000 ∷ replicate 320 0)) ≡ 0x12 ∷ 0x83 ∷ 0x22 ∷ []

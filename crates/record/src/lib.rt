@@ -1,7 +1,8 @@
 // The packed record: a spectrum's start, step and samples in as few bits as they need.
 ghost use mathlib.Core.Path.{_≡_};
 ghost use lib.ListN.{length};
-ghost use Rattle.record.specs.Answer.{readAnswer, rowAfter, writeAnswer, bytesAfter, spectrumCheck};
+ghost use Rattle.grid.specs.Check.{lightCheck};
+ghost use Rattle.record.specs.Answer.{readAnswer, rowAfter, writeAnswer, bytesAfter};
 use grid::Check;
 use grid::Refusal;
 
@@ -53,25 +54,15 @@ pub fn write_record(start: u32, step: u32, samples: &[u32], bytes: &mut [u8]) ->
     ensures { λ r. ⌜ r ≡ writeAnswer start step (now (samples .entry)) (length (now (bytes .entry))) ⌝ }
     ensures { λ _. ⌜ now (bytes .exit) ≡ bytesAfter start step (now (samples .entry)) (now (bytes .entry)) ⌝ }
 {
-    match check_spectrum(start, step, samples) {
+    match grid::check_light(start, step, samples) {
         Check::Fine => write_accepted(start, step, samples, bytes),
         Check::Refused(refusal) => RecordWritten::Refused(refusal),
     }
 }
 
-// STEP, START, COUNT, SAMPLE.
-fn check_spectrum(start: u32, step: u32, samples: &[u32]) -> Check
-    ensures { λ r. ⌜ r ≡ spectrumCheck start step (now (samples .entry)) ⌝ }
-{
-    match grid::check_grid(start, step, samples.len()) {
-        Check::Fine => grid::check_samples(samples),
-        Check::Refused(refusal) => Check::Refused(refusal),
-    }
-}
-
 // ROOM, and then the bytes.
 fn write_accepted(start: u32, step: u32, samples: &[u32], bytes: &mut [u8]) -> RecordWritten
-    requires { ⌜ spectrumCheck start step (now samples) ≡ Check.Fine ⌝ }
+    requires { ⌜ lightCheck start step (now samples) ≡ Check.Fine ⌝ }
     ensures { λ r. ⌜ r ≡ writeAnswer start step (now (samples .entry)) (length (now (bytes .entry))) ⌝ }
     ensures { λ _. ⌜ now (bytes .exit) ≡ bytesAfter start step (now (samples .entry)) (now (bytes .entry)) ⌝ }
 {

@@ -1,3 +1,2 @@
 -- Definitions of the crate `spectrum`.
-pub mod Light
 pub mod Line

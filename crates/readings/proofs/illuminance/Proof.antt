@@ -2,8 +2,9 @@
 use mathlib.Core.Path.{_≡_, _∙_, sym}
 use native.Mathlib.Nat.{mul-comm}
 use Rattle.grid.specs.declared.Check.the-variants.{Fine}
-use Rattle.spectrum.specs.Light.{lightCheck}
-use Rattle.spectrum.proofs.Light.{grid-fine, on-grid, row-small, row-weighed}
+use Rattle.grid.specs.Check.{lightCheck}
+use Rattle.grid.proofs.Light.{grid-fine, on-grid}
+use Rattle.spectrum.proofs.Light.{row-small, row-weighed}
 use Rattle.readings.specs.Readings.{illuminanceOf}
 use borrow.Author.Needs.{needs}
 use Rattle.readings.proofs.illuminance.Statement.{statement}

@@ -2,7 +2,7 @@
 use mathlib.Core.Path.{_≡_, _∙_, sym}
 use borrow.Author.Tests.{le-leb, lt-leb}
 use Rattle.grid.specs.declared.Check.the-variants.{Fine}
-use Rattle.spectrum.specs.Light.{lightCheck}
+use Rattle.grid.specs.Check.{lightCheck}
 use Rattle.readings.specs.Readings.{mesopicOf}
 use borrow.Author.Needs.{needs}
 use Rattle.readings.proofs.mesopic.Statement.{statement}

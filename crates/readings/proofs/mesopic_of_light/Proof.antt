@@ -5,7 +5,8 @@ use native.Mathlib.Nat.{mul-comm}
 use native.Mathlib.Omega.{arith}
 use Rattle.exact.specs.Value.{short}
 use Rattle.curves.specs.declared.Curve.the-variants.{YBar, VPrime}
-use Rattle.spectrum.proofs.Light.{grid-fine, on-grid, row-small, row-weighed}
+use Rattle.grid.proofs.Light.{grid-fine, on-grid}
+use Rattle.spectrum.proofs.Light.{row-small, row-weighed}
 use Rattle.readings.specs.Readings.{weighed, mesopicDivisor}
 use Rattle.readings.proofs.Small.{sum-small, mesopic-sum-kept, mesopic-divisor-kept}
 use borrow.Author.Needs.{needs}

@@ -9,7 +9,8 @@ use lib.ListN.{length}
 use Rattle.grid.proofs.Accepted.{OnGrid}
 use Rattle.record.specs.Format.{lengthOf}
 use Rattle.record.specs.Leaf.{stored, bodyOf}
-use Rattle.record.proofs.Accepted.{on-grid, within, written}
+use Rattle.grid.proofs.Light.{within, on-grid}
+use Rattle.record.proofs.Accepted.{written}
 use Rattle.record.proofs.write_accepted.Statement.{statement}
 use Rattle.record.proofs.write_accepted.Tie as tie
 

@@ -4,14 +4,14 @@ use borrow.Author.Needs.{needs}
 use Rattle.record.proofs.write_record.Statement.{statement}
 use Rattle.record.proofs.write_record.Tie as tie
 
-check-spectrum-requires : tie.Need-check-spectrum-requires
-check-spectrum-requires c κs = search needs
+check-light-requires : tie.Need-check-light-requires
+check-light-requires c κs = search needs
 
 enum-told : tie.Need-enum-told
 enum-told c = search needs
 
 write-accepted-requires : tie.Need-write-accepted-requires
-write-accepted-requires c κs = sym (c .before .before .before .check-spectrum .ensures) ∙ c .before .enum-told .given .1
+write-accepted-requires c κs = sym (c .before .before .before .check-light .ensures) ∙ c .before .enum-told .given .1
 
 enum-known-refusal : tie.Need-enum-known-refusal
 enum-known-refusal c = search needs
@@ -24,14 +24,14 @@ returns c = search needs
 
 returns-2 : tie.Need-returns-2
 returns-2 c =
-    let e = sym (c .before .before .before .check-spectrum .ensures) ∙ c .before .refusal .given .1 in
+    let e = sym (c .before .before .before .check-light .ensures) ∙ c .before .refusal .given .1 in
     (rw e, rw e)
 
 pub write-record-spec : {M : Type 1} → statement M
 write-record-spec =
     tie.close
     (tie.spec
-    check-spectrum-requires
+    check-light-requires
     enum-told
     write-accepted-requires
     enum-known-refusal

@@ -5,7 +5,7 @@ use Rattle.mixing.specs.Sum.{weighted, total}
 use Rattle.grid.specs.Check.{gridCheck, limitCheck}
 use Rattle.curves.specs.Curves.{table}
 use Rattle.curves.specs.Tables.{xBar, yBar, zBar, vPrime}
-use Rattle.spectrum.specs.Light.{lightCheck}
+use Rattle.grid.specs.Check.{lightCheck}
 use Rattle.spectrum.specs.Line.{lineAt, endRule, T, W}
 use Rattle.answers.specs.Worked.{readingFrom, xyzFrom, xyFrom}
 use Rattle.readings.specs.Readings.{illuminanceOf, xyzOf, xyOf}

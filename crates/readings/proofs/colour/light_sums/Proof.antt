@@ -1,6 +1,7 @@
 -- An accepted light's row is laid and weighed.
 use Rattle.readings.proofs.LightSums.{light-sums}
-use Rattle.spectrum.proofs.Light.{grid-fine, row-small}
+use Rattle.grid.proofs.Light.{grid-fine}
+use Rattle.spectrum.proofs.Light.{row-small}
 use Rattle.readings.proofs.colour.light_sums.Statement.{statement}
 use Rattle.readings.proofs.colour.light_sums.Tie as tie
 

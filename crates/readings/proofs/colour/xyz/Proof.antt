@@ -3,7 +3,7 @@ use mathlib.Core.Path.{_≡_, _∙_, sym}
 use Prim.Native.Nat.{ℕ}
 use native.Mathlib.Nat.{mul-comm}
 use Rattle.grid.specs.declared.Check.the-variants.{Fine}
-use Rattle.spectrum.proofs.Light.{on-grid}
+use Rattle.grid.proofs.Light.{on-grid}
 use Rattle.answers.specs.Sums.{ofObserver}
 use Rattle.readings.specs.Readings.{colourCheck, xSum, ySum, zSum, xyzOf}
 use Rattle.readings.proofs.Small.{colour-fine}

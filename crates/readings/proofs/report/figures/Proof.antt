@@ -2,9 +2,10 @@
 use mathlib.Core.Path.{_≡_, _∙_, sym}
 use Prim.Native.Nat.{_+_, _^_, _<_}
 use Rattle.grid.specs.declared.Check.the-variants.{Fine}
-use Rattle.spectrum.specs.Light.{lightCheck}
+use Rattle.grid.specs.Check.{lightCheck}
 use Rattle.exact.specs.Value.{short}
-use Rattle.spectrum.proofs.Light.{grid-fine, on-grid, row-small, row-weighed}
+use Rattle.grid.proofs.Light.{grid-fine, on-grid}
+use Rattle.spectrum.proofs.Light.{row-small, row-weighed}
 use Rattle.readings.specs.Readings.{illuminanceOf, xyzOf, xyOf}
 use Rattle.readings.proofs.Small.{colour-small}
 use Rattle.readings.proofs.LightSums.{light-sums}

@@ -1,14 +1,14 @@
 -- The example by computation.
 use mathlib.Core.Path.{refl}
 use Rattle.grid.specs.Check.{gridCheck, limitCheck}
-use Rattle.record.specs.Answer.{spectrumCheck}
+use Rattle.grid.specs.Check.{lightCheck}
 use Rattle.record.specs.Bits.{bitsOf, num, pack, cut}
 use Rattle.record.specs.Format.{recordOf}
 use Rattle.record.proofs.promise.example.Statement.{statement}
 use Rattle.record.proofs.promise.example.Tie as tie
 
 returns : tie.Need-returns
-unfolding spectrumCheck gridCheck limitCheck recordOf pack cut bitsOf num
+unfolding lightCheck gridCheck limitCheck recordOf pack cut bitsOf num
 returns c = record { accepted = refl; length = refl; begins = refl }
 
 pub example-spec : {M : Type 1} → statement M

@@ -1,12 +1,11 @@
 -- The grid's check comes first, and then the samples'.
 use mathlib.Core.Path.{_≡_, sym, _∙_}
 use lib.ListN.{length}
 use Rattle.grid.specs.declared.Check.the-variants.{Fine}
-use Rattle.grid.specs.Check.{gridCheck}
-use Rattle.spectrum.specs.Light.{lightCheck}
+use Rattle.grid.specs.Check.{gridCheck, lightCheck}
 use borrow.Author.Needs.{needs}
-use Rattle.spectrum.proofs.check_light.Statement.{statement}
-use Rattle.spectrum.proofs.check_light.Tie as tie
+use Rattle.grid.proofs.check_light.Statement.{statement}
+use Rattle.grid.proofs.check_light.Tie as tie
 
 check-grid-requires : tie.Need-check-grid-requires
 check-grid-requires c κs = search needs

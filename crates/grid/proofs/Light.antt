@@ -1,0 +1,37 @@
+-- What is known of a light that is accepted, and of the place that is named where it is not.
+use mathlib.Core.Path.{_≡_, refl}
+use mathlib.Core.List.{List}
+use Prim.Native.Nat.{ℕ, _≤_}
+use native.Mathlib.Omega.{arith}
+use lib.ListN.{length}
+use Rattle.grid.specs.declared.Check.{Check}
+use Rattle.grid.specs.declared.Check.the-variants.{Fine, Refused}
+use Rattle.grid.specs.Check.{gridCheck, samplesCheck, lightCheck, unless, Within}
+use Rattle.grid.proofs.Limit.{fine-within}
+use Rattle.grid.proofs.Accepted.{OnGrid, accepted}
+use Rattle.grid.proofs.Place.{placeOf, row-place}
+
+-- where a check is followed by another and all is fine, both are
+pub both-fine : (c d : Check) → unless c Refused d ≡ Fine → (c ≡ Fine) × (d ≡ Fine)
+both-fine Fine d e = (refl, e)
+both-fine (Refused r) d e = absurd (let z : _≡_ {A = ℕ} 0 1 = cc in omega arith)
+
+module _ (a s : ℕ) (xs : List ℕ) (fine : lightCheck a s xs ≡ Fine) where
+  pub grid-fine : gridCheck a s (length xs) ≡ Fine
+  unfolding lightCheck
+  grid-fine = both-fine (gridCheck a s (length xs)) (samplesCheck xs) fine .0
+
+  pub samples-fine : samplesCheck xs ≡ Fine
+  unfolding lightCheck
+  samples-fine = both-fine (gridCheck a s (length xs)) (samplesCheck xs) fine .1
+
+  pub within : Within 1000000 xs
+  within = fine-within 4 1000000 0 xs samples-fine
+
+  pub on-grid : OnGrid a s (length xs)
+  on-grid = accepted a s (length xs) grid-fine
+
+-- a refusal's place fits a row that the grid allows
+pub light-place : (a s : ℕ) (xs : List ℕ) → placeOf (lightCheck a s xs) ≤ 531
+unfolding lightCheck
+light-place a s xs = row-place 4 1000000 a s xs
