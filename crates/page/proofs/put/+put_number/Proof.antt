@@ -47,8 +47,8 @@ put-number-same-length t c = search needs
 
 put-number-returns : (t : ℕ) → put-number-lts.Need-returns (claims t) (put-number-at t) put-number.Post
 put-number-returns t c =
-    let n = c .before .before .before .before .before .before .before .before .args .n in
-    rw (decimal-one n (c .before .before .before .before .before .if1 .taken), ← c .before .before .before .before .before .before .digit .ensures) (c .before .before .put .ensures)
+    let short = c .before .before .before .before .before in
+    rw (decimal-one (short .before .before .before .args .n) (short .if1 .taken), ← short .before .digit .ensures) (c .before .before .put .ensures)
 
 put-number-put-number-requires : (t : ℕ) → put-number-lts.Need-put-number-requires (claims t) (put-number-at t) put-number.Post
 put-number-put-number-requires t c κs =
@@ -73,8 +73,9 @@ put-number-same-length-2 t c = search needs
 
 put-number-returns-2 : (t : ℕ) → put-number-lts.Need-returns-2 (claims t) (put-number-at t) put-number.Post
 put-number-returns-2 t c =
-    let start = c .before .before .before .before .before .before .before .before .before .before .before .before in
-    rw (decimal-more (start .args .n) (c .before .before .before .before .before .before .before .before .before .if1 .left) (omega (arith, start .fits .n)), ← c .before .before .before .before .before .before .before .before .before .before .digit .ensures)
+    let long = c .before .before .before .before .before .before .before .before .before in
+    let start = long .before .before .before in
+    rw (decimal-more (start .args .n) (long .if1 .left) (omega (arith, start .fits .n)), ← long .before .digit .ensures)
     (joined (c .before .before .before .before .before .before .before .put-number .ensures) (c .before .before .put2 .ensures))
 
 pub +put-number-spec : {M : Type 1} → statement M
