@@ -45,17 +45,22 @@ colour-length : (xy : XyAnswer) → SmallXy xy → length (colourLines xy) ≤ 2
 unfolding colourLines
 colour-length (XyAnswer.Value v) h =
     let small = h v refl in
-    omega
-    (arith, length-append (line smallX (coordinate (v .x))) (line smallY (coordinate (v .y))), coordinate-length smallX (v .x) (small .0), coordinate-length smallY (v .y) (small .1))
+    let x = coordinate-length smallX (v .x) (small .0) in
+    let y = coordinate-length smallY (v .y) (small .1) in
+    simp length-append (omega arith)
 colour-length (XyAnswer.Refused dark) h =
     omega (arith, length-append (line smallX dash) (line smallY dash), line-length smallX dash, line-length smallY dash)
 
 figures-length : (f : ReportFigures) → Small f → length (figureLines f) ≤ 99
 unfolding figureLines
 figures-length f h =
-    simp length-append
-    (omega
-    (arith, number-length photopic (f .photopic) (h .photopic), number-length scotopic (f .scotopic) (h .scotopic), number-length bigX (f .xyz .x) (h .xyz .0), number-length bigY (f .xyz .y) (h .xyz .1), number-length bigZ (f .xyz .z) (h .xyz .2), colour-length (f .xy) (h .xy)))
+    let day = number-length photopic (f .photopic) (h .photopic) in
+    let night = number-length scotopic (f .scotopic) (h .scotopic) in
+    let x = number-length bigX (f .xyz .x) (h .xyz .0) in
+    let y = number-length bigY (f .xyz .y) (h .xyz .1) in
+    let z = number-length bigZ (f .xyz .z) (h .xyz .2) in
+    let colour = colour-length (f .xy) (h .xy) in
+    simp length-append (omega arith)
 
 text-length : (a : FiguresAnswer) → ((f : ReportFigures) → a ≡ FiguresAnswer.Value f → Small f) → length (textOf a) ≤ 99
 unfolding textOf

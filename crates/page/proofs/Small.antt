@@ -1,15 +1,14 @@
 -- The figures of a report are small: readings fit 32 bits, and a coordinate is at most 1.
-use mathlib.Core.Path.{_≡_, refl, ap}
+use mathlib.Core.Path.{_≡_, refl}
 use mathlib.Core.Bool.{Bool, true, false, cond, _&&_}
 use mathlib.Core.List.{List}
 use Prim.Native.Nat.{ℕ, _+_, _*_, _≤_}
 use native.Mathlib.Nat.{mul-le-mul-left}
 use native.Mathlib.Omega.{arith}
 use borrow.Author.Tests.{leb-true}
-use lib.Dec.{leb, eqb}
+use lib.Dec.{eqb}
 use Rattle.grid.specs.declared.Check.{Check}
 use Rattle.grid.specs.declared.Check.the-variants.{Fine, Refused}
-use Rattle.grid.specs.declared.Refusal.{Refusal}
 use Rattle.grid.specs.Check.{unless, refusal}
 use Rattle.grid.proofs.Accepted.{both}
 use Rattle.mixing.specs.Nearest.{nearest}

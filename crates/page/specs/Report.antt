@@ -12,31 +12,39 @@ use Rattle.readings.specs.declared.report.ReportFigures.{ReportFigures}
 use Rattle.readings.specs.declared.report.FiguresAnswer.{FiguresAnswer}
 use Rattle.readings.specs.Readings.{figuresOf}
 
--- the words, with the space behind each: "photopic ", "scotopic ", "X ", "Y ", "Z ", "x ", "y ", "refused ", " at "
+-- "photopic "
 abbrev pub photopic : List ℕ
 photopic = 112 ∷ 104 ∷ 111 ∷ 116 ∷ 111 ∷ 112 ∷ 105 ∷ 99 ∷ 32 ∷ []
 
+-- "scotopic "
 abbrev pub scotopic : List ℕ
 scotopic = 115 ∷ 99 ∷ 111 ∷ 116 ∷ 111 ∷ 112 ∷ 105 ∷ 99 ∷ 32 ∷ []
 
+-- "X "
 abbrev pub bigX : List ℕ
 bigX = 88 ∷ 32 ∷ []
 
+-- "Y "
 abbrev pub bigY : List ℕ
 bigY = 89 ∷ 32 ∷ []
 
+-- "Z "
 abbrev pub bigZ : List ℕ
 bigZ = 90 ∷ 32 ∷ []
 
+-- "x "
 abbrev pub smallX : List ℕ
 smallX = 120 ∷ 32 ∷ []
 
+-- "y "
 abbrev pub smallY : List ℕ
 smallY = 121 ∷ 32 ∷ []
 
+-- "refused "
 abbrev pub refused : List ℕ
 refused = 114 ∷ 101 ∷ 102 ∷ 117 ∷ 115 ∷ 101 ∷ 100 ∷ 32 ∷ []
 
+-- " at "
 abbrev pub at : List ℕ
 at = 32 ∷ 97 ∷ 116 ∷ 32 ∷ []
 

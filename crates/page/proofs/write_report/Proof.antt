@@ -34,8 +34,9 @@ put-text-requires c κs = rw (c .answer-of .ensures) (most (c .before .before .b
 returns : tie.Need-returns
 returns c =
     let page = c .before .before in
+    let text = page .before .before .before .before .before .args .text .now in
     let report = length-of page in
-    let short = lt-leb (length (reportOf (bytes page))) (length (c .before .before .before .before .before .before .before .args .text .now)) (omega (arith, c .if1 .taken)) in
+    let short = lt-leb (length (reportOf (bytes page))) (length text) (omega (arith, c .if1 .taken)) in
     (rw short, rw short)
 
 array-share-prefix-page : tie.Need-array-share-prefix-page
@@ -53,7 +54,7 @@ same-length c = search needs
 returns-2 : tie.Need-returns-2
 returns-2 c =
     let page = c .before .before .before .before .before .before .before in
-    let text = c .before .before .before .before .before .before .before .before .before .before .before .before .args .text .now in
+    let text = page .before .before .before .before .before .args .text .now in
     let report = length-of page in
     let room = le-leb (length (reportOf (bytes page))) (length text) (omega (arith, c .before .before .before .before .before .if1 .left)) in
     (rw (room, report), rw (room, ← text-of page) (front (c .before .before .put .ensures)))

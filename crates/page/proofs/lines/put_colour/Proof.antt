@@ -15,14 +15,20 @@ slice-aggregate-put-line c = search needs
 
 put-line-requires : tie.Need-put-line-requires
 unfolding colourLines
-put-line-requires c κs = let room = simp length-append at (rw (c .before .before .before .xy .given .1) at (c .before .before .before .before .before .before .pre)) in omega arith
+put-line-requires c κs =
+    let xy = c .before .before .before in
+    let room = simp length-append at (rw (xy .xy .given .1) at (xy .before .before .before .pre)) in
+    omega arith
 
 slice-aggregate-put-line-2 : tie.Need-slice-aggregate-put-line-2
 slice-aggregate-put-line-2 c = search needs
 
 put-line-requires-2 : tie.Need-put-line-requires-2
 unfolding colourLines
-put-line-requires-2 c κs = let room = simp length-append at (rw (c .before .before .before .before .before .before .before .before .xy .given .1) at (c .before .before .before .before .before .before .before .before .before .before .before .pre)) in omega arith
+put-line-requires-2 c κs =
+    let xy = c .before .before .before .before .before .before .before .before in
+    let room = simp length-append at (rw (xy .xy .given .1) at (xy .before .before .before .pre)) in
+    omega arith
 
 enum-told : tie.Need-enum-told
 enum-told c = search needs
@@ -39,7 +45,9 @@ same-length c = search needs
 
 returns : tie.Need-returns
 unfolding colourLines
-returns c = rw (c .before .before .before .before .before .before .before .before .before .before .before .xy .given .1) (joined (c .before .before .before .before .before .before .before .put-line .ensures) (c .before .before .put-line2 .ensures))
+returns c =
+    let first = c .before .before .before .before .before .before .before in
+    rw (first .before .before .before .before .xy .given .1) (joined (first .put-line .ensures) (c .before .before .put-line2 .ensures))
 
 same-length-2 : tie.Need-same-length-2
 same-length-2 c = search needs

@@ -20,14 +20,19 @@ slice-aggregate-put c = search needs
 
 put-requires-2 : tie.Need-put-requires-2
 unfolding line
-put-requires-2 c κs = let room = simp length-append at (c .before .before .before .before .before .before .before .before .before .before .before .before .pre) in omega arith
+put-requires-2 c κs =
+    let said = c .before .before .before .before in
+    let room = simp length-append at (said .before .before .before .before .before .before .before .before .pre) in
+    omega arith
 
 same-length : tie.Need-same-length
 same-length c = search needs
 
 returns : tie.Need-returns
 unfolding line
-returns c = joined (joined (c .before .before .before .before .before .before .before .before .before .before .before .put .ensures) (c .before .before .before .before .before .before .before .put-said .ensures)) (c .before .before .put2 .ensures)
+returns c =
+    let said = c .before .before .before .before .before .before .before in
+    joined (joined (said .before .before .before .before .put .ensures) (said .put-said .ensures)) (c .before .before .put2 .ensures)
 
 pub put-line-spec : {M : Type 1} → statement M
 put-line-spec =

@@ -37,8 +37,9 @@ put-requires c κs =
 
 put-number-requires-2 : tie.Need-put-number-requires-2
 put-number-requires-2 c κs =
-    let start = c .before .before .before .before .before .before .before .before .before .before .before .before .before .before in
-    let more = simp length-append at (ap length (placed (start .args .refusal) (c .before .before .before .before .before .before .if1 .taken))) in
+    let taken = c .before .before .before .before .before .before in
+    let start = taken .before .before .before .before .before .before .before .before in
+    let more = simp length-append at (ap length (placed (start .args .refusal) (taken .if1 .taken))) in
     omega (arith, start .pre, more)
 
 same-length : tie.Need-same-length
@@ -46,14 +47,18 @@ same-length c = search needs
 
 returns : tie.Need-returns
 returns c =
-    rw (placed (c .before .before .before .before .before .before .before .before .before .before .before .before .before .before .before .before .before .args .refusal) (c .before .before .before .before .before .before .before .before .before .if1 .taken))
-    (joined (c .before .before .before .before .before .before .before .before .before .before .before .before .before .put-number .ensures) (joined (c .before .before .before .before .before .before .put .ensures) (c .before .before .put-number2 .ensures)))
+    let taken = c .before .before .before .before .before .before .before .before .before in
+    let number = taken .before .before .before .before in
+    rw (placed (number .before .before .before .before .args .refusal) (taken .if1 .taken))
+    (joined (number .put-number .ensures) (joined (c .before .before .before .before .before .before .put .ensures) (c .before .before .put-number2 .ensures)))
 
 same-length-2 : tie.Need-same-length-2
 same-length-2 c = search needs
 
 returns-2 : tie.Need-returns-2
-returns-2 c = rw (unplaced (c .before .before .before .before .before .before .before .before .args .refusal) (c .if1 .left)) (c .before .before .before .before .put-number .ensures)
+returns-2 c =
+    let number = c .before .before .before .before in
+    rw (unplaced (number .before .before .before .before .args .refusal) (c .if1 .left)) (number .put-number .ensures)
 
 pub put-refusal-spec : {M : Type 1} → statement M
 put-refusal-spec =

@@ -41,7 +41,7 @@ unfolding coordinate
 returns c =
     let digits = c .before .before .before .before .before .before .before .before .before in
     rw
-    (← c .before .before .before .before .before .before .before .before .before .before .before .before .before .digit .ensures, ← c .before .before .before .before .before .before .before .before .before .before .before .before .digit2 .ensures, ← c .before .before .before .before .before .before .before .before .before .before .before .digit3 .ensures, ← c .before .before .before .before .before .before .before .before .before .before .digit4 .ensures, ← c .before .before .before .before .before .before .before .before .before .digit5 .ensures)
+    (← digits .before .before .before .before .digit .ensures, ← digits .before .before .before .digit2 .ensures, ← digits .before .before .digit3 .ensures, ← digits .before .digit4 .ensures, ← digits .digit5 .ensures)
     (joined (c .before .before .before .before .before .before .before .put-number .ensures) (c .before .before .put .ensures))
 
 pub put-coordinate-spec : {M : Type 1} → statement M
