@@ -2,9 +2,9 @@
 use crate::flat::QrChart;
 use crate::flat::QrXy;
 use crate::flat::QrXyz;
-use crate::flat::flat_chart;
-use crate::flat::flat_xy;
-use crate::flat::flat_xyz;
+use crate::flatten::flat_chart;
+use crate::flatten::flat_xy;
+use crate::flatten::flat_xyz;
 ghost use mathlib.Core.Path.{_≡_};
 ghost use Rattle.answers.specs.Said.{saidXyz, saidXy};
 ghost use Rattle.panel.specs.Panel.{panelXyzOf, panelXyOf, panelChartOf};

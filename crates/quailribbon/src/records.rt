@@ -1,9 +1,9 @@
 // Reading, writing and reporting a packed record, for C.
 use crate::flat::QrRecord;
 use crate::flat::QrWritten;
-use crate::flat::flat_record;
-use crate::flat::flat_reported;
-use crate::flat::flat_written;
+use crate::flatten::flat_record;
+use crate::flatten::flat_reported;
+use crate::flatten::flat_written;
 ghost use mathlib.Core.Path.{_≡_};
 ghost use lib.ListN.{length};
 ghost use Rattle.record.specs.Answer.{readAnswer, rowAfter, writeAnswer, bytesAfter};

@@ -1,8 +1,8 @@
 -- Each case is said so.
 use native.Mathlib.Omega.{arith}
 use borrow.Author.Needs.{needs}
-use Rattle.quailribbon.proofs.flat.flat_xy.Statement.{statement}
-use Rattle.quailribbon.proofs.flat.flat_xy.Tie as tie
+use Rattle.quailribbon.proofs.flatten.flat_xy.Statement.{statement}
+use Rattle.quailribbon.proofs.flatten.flat_xy.Tie as tie
 
 enum-known-answer : tie.Need-enum-known-answer
 enum-known-answer c = search needs

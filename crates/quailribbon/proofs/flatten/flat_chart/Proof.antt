@@ -2,8 +2,8 @@
 use native.Mathlib.Omega.{arith}
 use lib.Ieee.{ofInt, ofBits}
 use borrow.Author.Needs.{needs}
-use Rattle.quailribbon.proofs.flat.flat_chart.Statement.{statement}
-use Rattle.quailribbon.proofs.flat.flat_chart.Tie as tie
+use Rattle.quailribbon.proofs.flatten.flat_chart.Statement.{statement}
+use Rattle.quailribbon.proofs.flatten.flat_chart.Tie as tie
 
 enum-known-answer : tie.Need-enum-known-answer
 enum-known-answer c = search needs

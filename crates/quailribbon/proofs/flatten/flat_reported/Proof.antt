@@ -1,8 +1,8 @@
 -- Each case is said so.
 use native.Mathlib.Omega.{arith}
 use borrow.Author.Needs.{needs}
-use Rattle.quailribbon.proofs.flat.flat_written.Statement.{statement}
-use Rattle.quailribbon.proofs.flat.flat_written.Tie as tie
+use Rattle.quailribbon.proofs.flatten.flat_reported.Statement.{statement}
+use Rattle.quailribbon.proofs.flatten.flat_reported.Tie as tie
 
 enum-known-answer : tie.Need-enum-known-answer
 enum-known-answer c = search needs
@@ -22,6 +22,6 @@ returns c = rw (c .before .answer .given .1)
 returns-2 : tie.Need-returns-2
 returns-2 c = rw (c .before .before .answer2 .given .1)
 
-pub flat-written-spec : {M : Type 1} → statement M
-flat-written-spec =
+pub flat-reported-spec : {M : Type 1} → statement M
+flat-reported-spec =
     tie.close (tie.spec enum-known-answer cast-t5 enum-known-answer-2 cast-t6 returns returns-2)

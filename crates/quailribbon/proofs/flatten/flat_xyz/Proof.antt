@@ -1,8 +1,8 @@
 -- Each case is said so.
 use native.Mathlib.Omega.{arith}
 use borrow.Author.Needs.{needs}
-use Rattle.quailribbon.proofs.flat.flat_reading.Statement.{statement}
-use Rattle.quailribbon.proofs.flat.flat_reading.Tie as tie
+use Rattle.quailribbon.proofs.flatten.flat_xyz.Statement.{statement}
+use Rattle.quailribbon.proofs.flatten.flat_xyz.Tie as tie
 
 enum-known-answer : tie.Need-enum-known-answer
 enum-known-answer c = search needs
@@ -19,6 +19,6 @@ returns c = rw (c .before .answer .given .1)
 returns-2 : tie.Need-returns-2
 returns-2 c = rw (c .before .before .answer2 .given .1)
 
-pub flat-reading-spec : {M : Type 1} → statement M
-flat-reading-spec =
+pub flat-xyz-spec : {M : Type 1} → statement M
+flat-xyz-spec =
     tie.close (tie.spec enum-known-answer enum-known-answer-2 cast-t5 returns returns-2)
