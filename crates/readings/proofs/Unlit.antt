@@ -1,4 +1,4 @@
--- Where no light meets any weight, every sum is 0: the illuminances are 0, the coordinates dark.
+-- Where no light meets a curve's weights, its sum is 0: the illuminances are 0, the coordinates dark.
 use mathlib.Core.Path.{_≡_, refl, sym, ap}
 use mathlib.Core.Bool.{Bool, true, false, cond}
 use mathlib.Core.List.{List}
@@ -25,16 +25,16 @@ use Rattle.answers.specs.declared.ChartAnswer.{ChartAnswer}
 use Rattle.answers.specs.Worked.{readingFrom, xyzFrom, xyFrom, onChart}
 use Rattle.answers.specs.Sums.{ofObserver}
 use Rattle.readings.specs.Readings.{weighed, illuminanceOf, mesopicOf, xyzOf, xyOf, chartOf}
-use Rattle.readings.specs.Promises.{Unlit}
+use Rattle.readings.specs.Promises.{Unlit, Colourless}
 
 getD-zeros : (n i : ℕ) → _≡_ {A = ℕ} (getD (replicate n 0) i 0) 0
 getD-zeros zero i = refl
 getD-zeros (suc n) zero = refl
 getD-zeros (suc n) (suc i) = getD-zeros n i
 
-pub zeros : (a s n : ℕ) → Unlit a s (replicate n 0)
+pub zeros : (c : Curve) (a s n : ℕ) → Unlit c a s (replicate n 0)
 unfolding T endRule lineAt
-zeros a s n c k = rw (dark (isMeasured a s (length {A = ℕ} (replicate n 0)) (360 + k)) (360 + k - a)) (mul-zero (weightOf c k))
+zeros c a s n k = rw (dark (isMeasured a s (length {A = ℕ} (replicate n 0)) (360 + k)) (360 + k - a)) (mul-zero (weightOf c k))
   where
     dark :
         (b : Bool) (e : ℕ) →
@@ -42,37 +42,38 @@ zeros a s n c k = rw (dark (isMeasured a s (length {A = ℕ} (replicate n 0)) (3
     dark true e = rw (getD-zeros n (e / s), getD-zeros n (e / s + 1)) (simp (mul-zero, add-zero))
     dark false e = refl
 
-module _ (a s : ℕ) (xs : List ℕ) (fine : lightCheck a s xs ≡ Fine) (unlit : Unlit a s xs) where
-  no-sum : (c : Curve) → weighed c a s xs ≡ 0
+module _ (a s : ℕ) (xs : List ℕ) (fine : lightCheck a s xs ≡ Fine) where
+  no-sum : (c : Curve) → Unlit c a s xs → weighed c a s xs ≡ 0
   unfolding W weighted
-  no-sum c = total-none 471 (λ k. weightOf c k * T a s xs (360 + k)) (unlit c)
+  no-sum c unlit = total-none 471 (λ k. weightOf c k * T a s xs (360 + k)) unlit
 
-  pub no-illuminance : (c : Curve) (efficacy : ℕ) → illuminanceOf c efficacy a s xs ≡ Reading.Value 0
+  pub no-illuminance : (c : Curve) (efficacy : ℕ) → Unlit c a s xs → illuminanceOf c efficacy a s xs ≡ Reading.Value 0
   unfolding illuminanceOf readingFrom
-  no-illuminance c efficacy = rw (fine, no-sum c, mul-zero efficacy, nearest-none)
+  no-illuminance c efficacy unlit = rw (fine, no-sum c unlit, mul-zero efficacy, nearest-none)
 
-  pub no-mesopic : (k : ℕ) → k ≤ 1000 → mesopicOf k a s xs ≡ Reading.Value 0
+  pub no-mesopic : (k : ℕ) → k ≤ 1000 → Unlit YBar a s xs → Unlit VPrime a s xs → mesopicOf k a s xs ≡ Reading.Value 0
   unfolding mesopicOf readingFrom
-  no-mesopic k h = rw (le-leb k 1000 h, fine, no-sum YBar, no-sum VPrime, mul-zero k, mul-zero (1000 - k), nearest-none)
+  no-mesopic k h day night =
+      rw (le-leb k 1000 h, fine, no-sum YBar day, no-sum VPrime night, mul-zero k, mul-zero (1000 - k), nearest-none)
 
-  module _ (o : ℕ) (e : isObserver o ≡ true) where
+  module _ (o : ℕ) (e : isObserver o ≡ true) (unlit : Colourless o a s xs) where
+    no-x : weighed (ofObserver o XBar XBar10) a s xs ≡ 0
+    no-x = no-sum (ofObserver o XBar XBar10) (unlit .0)
+
+    no-y : weighed (ofObserver o YBar YBar10) a s xs ≡ 0
+    no-y = no-sum (ofObserver o YBar YBar10) (unlit .1)
+
+    no-z : weighed (ofObserver o ZBar ZBar10) a s xs ≡ 0
+    no-z = no-sum (ofObserver o ZBar ZBar10) (unlit .2)
+
     pub no-xyz : xyzOf o a s xs ≡ XyzAnswer.Value (record { x = 0; y = 0; z = 0 })
     unfolding xyzOf xyzFrom
-    no-xyz =
-        rw (
-          e,
-          fine,
-          no-sum (ofObserver o XBar XBar10),
-          no-sum (ofObserver o YBar YBar10),
-          no-sum (ofObserver o ZBar ZBar10),
-          mul-zero (ofObserver o 683 684),
-          nearest-none,
-        )
+    no-xyz = rw (e, fine, no-x, no-y, no-z, mul-zero (ofObserver o 683 684), nearest-none)
 
     pub no-xy : xyOf o a s xs ≡ XyAnswer.Refused (refusal 9 0)
     unfolding xyOf xyFrom
-    no-xy = rw (e, fine, no-sum (ofObserver o XBar XBar10), no-sum (ofObserver o YBar YBar10), no-sum (ofObserver o ZBar ZBar10))
+    no-xy = rw (e, fine, no-x, no-y, no-z)
 
     pub no-point : chartOf o a s xs ≡ ChartAnswer.Given OnChart.Dark
     unfolding chartOf xyFrom onChart
-    no-point = rw (e, fine, no-sum (ofObserver o XBar XBar10), no-sum (ofObserver o YBar YBar10), no-sum (ofObserver o ZBar ZBar10))
+    no-point = rw (e, fine, no-x, no-y, no-z)

@@ -10,6 +10,7 @@ use Rattle.mixing.specs.Mixture.{mix, Below}
 use Rattle.mixing.specs.Promise.{Between}
 use Rattle.mixing.specs.Promise.{Within as Differ}
 use Rattle.curves.specs.declared.Curve.{Curve}
+use Rattle.curves.specs.declared.Curve.the-variants.{XBar, YBar, ZBar, XBar10, YBar10, ZBar10, VPrime}
 use Rattle.curves.specs.Curves.{weightOf}
 use Rattle.grid.specs.Check.{lightCheck}
 use Rattle.spectrum.specs.Line.{T}
@@ -19,6 +20,7 @@ use Rattle.answers.specs.declared.XyzAnswer.{XyzAnswer}
 use Rattle.answers.specs.declared.XyAnswer.{XyAnswer}
 use Rattle.answers.specs.declared.ChartAnswer.{ChartAnswer}
 use Rattle.answers.specs.Said.{Said, value, saidReading, saidXyz, saidXy}
+use Rattle.answers.specs.Sums.{ofObserver}
 use Rattle.readings.specs.Readings.{photopicOf, scotopicOf, photopic10Of, mesopicOf, xyzOf, xyOf, chartOf}
 
 -- an answer by start, step and samples, as the paper's number, place and values
@@ -75,24 +77,31 @@ pub record Order : Type 0 where
   pub mesopic : (k : ℕ) → InOrder (λ a s xs. saidReading (mesopicOf k a s xs))
   pub xyz : (o : ℕ) → InOrder (λ a s xs. saidXyz (xyzOf o a s xs))
 
--- no light where any weight is
-abbrev pub Unlit : ℕ → ℕ → List ℕ → Type 0
-Unlit a s xs = (c : Curve) (k : ℕ) → weightOf c k * T a s xs (360 + k) ≡ 0
+-- no light where the curve has any weight
+abbrev pub Unlit : Curve → ℕ → ℕ → List ℕ → Type 0
+Unlit c a s xs = (k : ℕ) → weightOf c k * T a s xs (360 + k) ≡ 0
+
+-- and none where any of the observer's three has
+abbrev pub Colourless : ℕ → ℕ → ℕ → List ℕ → Type 0
+Colourless o a s xs =
+    Unlit (ofObserver o XBar XBar10) a s xs × Unlit (ofObserver o YBar YBar10) a s xs × Unlit (ofObserver o ZBar ZBar10) a s xs
 
 pub record Darkness : Type 0 where
   -- a room with no light
-  pub zeros : (a s n : ℕ) → Unlit a s (replicate n 0)
-  pub photopic : (a s : ℕ) (xs : List ℕ) → lightCheck a s xs ≡ Fine → Unlit a s xs → photopicOf a s xs ≡ Reading.Value 0
-  pub scotopic : (a s : ℕ) (xs : List ℕ) → lightCheck a s xs ≡ Fine → Unlit a s xs → scotopicOf a s xs ≡ Reading.Value 0
-  pub photopic-10 : (a s : ℕ) (xs : List ℕ) → lightCheck a s xs ≡ Fine → Unlit a s xs → photopic10Of a s xs ≡ Reading.Value 0
+  pub zeros : (c : Curve) (a s n : ℕ) → Unlit c a s (replicate n 0)
+  pub photopic : (a s : ℕ) (xs : List ℕ) → lightCheck a s xs ≡ Fine → Unlit YBar a s xs → photopicOf a s xs ≡ Reading.Value 0
+  pub scotopic : (a s : ℕ) (xs : List ℕ) → lightCheck a s xs ≡ Fine → Unlit VPrime a s xs → scotopicOf a s xs ≡ Reading.Value 0
+  pub photopic-10 :
+      (a s : ℕ) (xs : List ℕ) → lightCheck a s xs ≡ Fine → Unlit YBar10 a s xs → photopic10Of a s xs ≡ Reading.Value 0
   pub mesopic :
-      (k a s : ℕ) (xs : List ℕ) → k ≤ 1000 → lightCheck a s xs ≡ Fine → Unlit a s xs → mesopicOf k a s xs ≡ Reading.Value 0
+      (k a s : ℕ) (xs : List ℕ) → k ≤ 1000 → lightCheck a s xs ≡ Fine → Unlit YBar a s xs → Unlit VPrime a s xs →
+      mesopicOf k a s xs ≡ Reading.Value 0
   pub xyz :
-      (o a s : ℕ) (xs : List ℕ) → isObserver o ≡ true → lightCheck a s xs ≡ Fine → Unlit a s xs →
+      (o a s : ℕ) (xs : List ℕ) → isObserver o ≡ true → lightCheck a s xs ≡ Fine → Colourless o a s xs →
       xyzOf o a s xs ≡ XyzAnswer.Value (record { x = 0; y = 0; z = 0 })
   pub xy :
-      (o a s : ℕ) (xs : List ℕ) → isObserver o ≡ true → lightCheck a s xs ≡ Fine → Unlit a s xs →
+      (o a s : ℕ) (xs : List ℕ) → isObserver o ≡ true → lightCheck a s xs ≡ Fine → Colourless o a s xs →
       xyOf o a s xs ≡ XyAnswer.Refused (refusal 9 0)
   pub chart :
-      (o a s : ℕ) (xs : List ℕ) → isObserver o ≡ true → lightCheck a s xs ≡ Fine → Unlit a s xs →
+      (o a s : ℕ) (xs : List ℕ) → isObserver o ≡ true → lightCheck a s xs ≡ Fine → Colourless o a s xs →
       chartOf o a s xs ≡ ChartAnswer.Given OnChart.Dark
