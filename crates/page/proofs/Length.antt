@@ -4,18 +4,16 @@ use mathlib.Core.Bool.{Bool, true, false, cond}
 use mathlib.Core.List.{List, [], _++_}
 use Prim.Native.Nat.{ℕ, _+_, _/_, _≤_}
 use native.Mathlib.Omega.{arith}
-use borrow.Author.Tests.{leb-true}
+use borrow.Author.Tests.{le-leb}
 use lib.ListN.{length, length-append}
-use lib.Dec.{leb, eqb}
+use lib.Dec.{eqb}
 use Rattle.grid.specs.declared.Refusal.{Refusal}
-use Rattle.grid.specs.declared.Check.the-variants.{Fine}
-use Rattle.grid.specs.Check.{unless, require}
 use Rattle.answers.specs.declared.XyAnswer.{XyAnswer}
 use Rattle.readings.specs.declared.report.ReportFigures.{ReportFigures}
 use Rattle.readings.specs.declared.report.FiguresAnswer.{FiguresAnswer}
 use Rattle.page.specs.Report.{photopic, scotopic, bigX, bigY, bigZ, dash, at, refused, decimal, coordinate, line, numbered, smallX, smallY, colourLines, figureLines, textOf, answerOf, reportOf}
 use Rattle.page.specs.Answer.{reportAnswer}
-use Rattle.page.specs.declared.ReportWritten.the-variants.{Written, Refused}
+use Rattle.page.specs.declared.ReportWritten.the-variants.{Written}
 use Rattle.page.proofs.Digits.{digits-most, digits-few}
 use Rattle.page.proofs.Small.{Small, SmallXy, answer-small}
 
@@ -70,10 +68,6 @@ text-length (FiguresAnswer.Refused r) h = omega (arith, line-length refused (num
 pub most : (bytes : List ℕ) → length (reportOf bytes) ≤ 99
 most bytes = text-length (answerOf bytes) (answer-small bytes)
 
--- what is written lies within the text
-pub within : (bytes : List ℕ) (room n : ℕ) → reportAnswer bytes room ≡ Written n → n ≤ room
-within bytes room n e = go (leb (length (reportOf bytes)) room) refl e
-  where
-    go : (b : Bool) → leb (length (reportOf bytes)) room ≡ b → unless (require b 14 Fine) Refused (Written (length (reportOf bytes))) ≡ Written n → n ≤ room
-    go true fits e = let same : length (reportOf bytes) ≡ n = cc in omega (arith, leb-true (length (reportOf bytes)) room fits)
-    go false fits e = absurd (let z : _≡_ {A = ℕ} 0 1 = cc in omega arith)
+-- a text of 99 bytes has room for any report
+pub written : (bytes : List ℕ) (room : ℕ) → 99 ≤ room → reportAnswer bytes room ≡ Written (length (reportOf bytes))
+written bytes room h = rw (le-leb (length (reportOf bytes)) room (omega (arith, most bytes)))

@@ -1,17 +1,20 @@
--- What was written lies within the text.
-use mathlib.Core.Path.{sym, _∙_}
-use Prim.Native.Nat.{_≤_}
+-- The report lies within the text, since no report has more than 99 bytes.
+use mathlib.Core.Path.{_≡_}
+use mathlib.Core.List.{List}
+use Prim.Native.Nat.{ℕ, _≤_}
 use native.Mathlib.Omega.{arith}
 use lib.ListN.{length, length-take}
-use Rattle.page.proofs.Length.{within}
 use borrow.Author.Needs.{needs}
+use Rattle.page.specs.Report.{reportOf}
+use Rattle.page.proofs.Length.{most}
 use Rattle.printer.proofs.print_report.Statement.{statement}
 use Rattle.printer.proofs.print_report.Tie as tie
 
-fits : (c : tie.After-length) → c .length .given .0 .0 ≤ length (c .before .before .before .write-report .last .1 .0)
-fits c =
-    let report = c .before .before .before .write-report in
-    omega (arith, report .kept .1 .0, within _ 99 (c .length .given .0 .0) (sym (report .ensures .0) ∙ c .length .given .1))
+short : (n : ℕ) (bytes : List ℕ) → n ≡ length (reportOf bytes) → n ≤ 99
+short n bytes e = omega (arith, e, most bytes)
+
+fits : (c : tie.After-report-length) → c .report-length .result ≤ length (c .report-length .last .1 .0)
+fits c = let report = c .report-length in omega (arith, report .kept .1 .0, short _ _ (report .ensures .0))
 
 slice-aggregate-read-full : tie.Need-slice-aggregate-read-full
 slice-aggregate-read-full c = search needs
@@ -22,17 +25,14 @@ read-full-requires c κs = search needs
 array-share-prefix-bytes : tie.Need-array-share-prefix-bytes
 array-share-prefix-bytes c = search needs
 
-slice-aggregate-write-report : tie.Need-slice-aggregate-write-report
-slice-aggregate-write-report c = search needs
+slice-aggregate-report-length : tie.Need-slice-aggregate-report-length
+slice-aggregate-report-length c = search needs
 
-slice-aggregate-write-report-2 : tie.Need-slice-aggregate-write-report-2
-slice-aggregate-write-report-2 c = search needs
+slice-aggregate-report-length-2 : tie.Need-slice-aggregate-report-length-2
+slice-aggregate-report-length-2 c = search needs
 
-write-report-requires : tie.Need-write-report-requires
-write-report-requires c κs = search needs
-
-enum-known-length : tie.Need-enum-known-length
-enum-known-length c = search needs
+report-length-requires : tie.Need-report-length-requires
+report-length-requires c κs = search needs
 
 array-share-prefix-text : tie.Need-array-share-prefix-text
 array-share-prefix-text c = fits (c .before)
@@ -43,14 +43,8 @@ slice-aggregate-write-all c = let h = fits (c .before .before) in simp length-ta
 write-all-requires : tie.Need-write-all-requires
 write-all-requires c κs = search needs
 
-enum-told : tie.Need-enum-told
-enum-told c = search needs
-
 returns : tie.Need-returns
 returns c = search needs
-
-returns-2 : tie.Need-returns-2
-returns-2 c = search needs
 
 pub print-report-spec : {M : Type 1} → statement M
 print-report-spec =
@@ -59,13 +53,10 @@ print-report-spec =
     slice-aggregate-read-full
     read-full-requires
     array-share-prefix-bytes
-    slice-aggregate-write-report
-    slice-aggregate-write-report-2
-    write-report-requires
-    enum-known-length
+    slice-aggregate-report-length
+    slice-aggregate-report-length-2
+    report-length-requires
     array-share-prefix-text
     slice-aggregate-write-all
     write-all-requires
-    enum-told
-    returns
-    returns-2)
+    returns)
