@@ -8,7 +8,7 @@ use Rattle.exact.specs.Value.{short}
 use Rattle.mixing.specs.Sum.{weighted}
 use Rattle.curves.specs.declared.Curve.the-variants.{XBar, YBar, ZBar, XBar10, YBar10, ZBar10}
 use Rattle.curves.specs.Curves.{weightOf, entryOf}
-use Rattle.answers.specs.declared.work.Sums.{Sums}
+use Rattle.curves.specs.declared.weigh.Sums.{Sums}
 
 -- what observer 10 has in place of what observer 2 has
 abbrev pub ofObserver : {A : Type 0} → ℕ → A → A → A

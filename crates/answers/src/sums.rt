@@ -1,6 +1,6 @@
 // The three sums of a row of light, one for each of the observer's curves.
-use crate::work::Sums;
 use curves::Curve;
+use curves::weigh::Sums;
 use curves::weigh::weigh;
 ghost use Rattle.curves.specs.Curves.{Row};
 ghost use Rattle.answers.specs.Sums.{RowSums};

@@ -6,6 +6,7 @@ use crate::Xy;
 use crate::XyAnswer;
 use crate::Xyz;
 use crate::XyzAnswer;
+use curves::weigh::Sums;
 use exact::digits::Short;
 use exact::digits::short_times_plus;
 use exact::divide::is_zero;
@@ -16,13 +17,6 @@ ghost use Prim.Native.Nat.{_+_, _*_, _^_, _≤_, _<_};
 ghost use Rattle.mixing.specs.Nearest.{nearest as nearestOf};
 ghost use Rattle.exact.specs.Value.{short};
 ghost use Rattle.answers.specs.Worked.{readingFrom, xyzFrom, xyFrom, onChart, coordinateFloat};
-
-// The three exact sums of a colour.
-pub struct Sums {
-    pub x: Short,
-    pub y: Short,
-    pub z: Short,
-}
 
 // The reading n · f / d.
 pub fn reading_from(n: Short, f: u32, d: Short) -> Reading

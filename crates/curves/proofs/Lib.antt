@@ -5,5 +5,6 @@ pub mod Product
 pub mod Split
 pub mod Illuminants
 pub mod Halves
+pub mod Lengths
 pub mod Largest
 pub mod Sums

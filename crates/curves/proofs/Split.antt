@@ -7,15 +7,14 @@ use Rattle.mixing.specs.Sum.{weighted}
 use Rattle.mixing.proofs.Sum.{weighted-ext, line-split}
 use Rattle.curves.specs.Curves.{entryOf}
 use Rattle.curves.specs.Split.{SplitOf}
-use Rattle.curves.specs.declared.lit.Split.{Split}
 
 pub split-weighed :
-    (illuminant row : List ℕ) (split : Split) → SplitOf illuminant row split → (v : ℕ → ℕ) →
-    weighted 471 v (entryOf (split .high)) * 2 ^ 21 + weighted 471 v (entryOf (split .low))
+    (illuminant row high low : List ℕ) → SplitOf illuminant row high low → (v : ℕ → ℕ) →
+    weighted 471 v (entryOf high) * 2 ^ 21 + weighted 471 v (entryOf low)
     ≡ weighted 471 v (λ k. getD illuminant k 0 * getD row k 0)
-split-weighed illuminant row split s v =
+split-weighed illuminant row high low s v =
     rw (
-      weighted-ext 471 v (entryOf (split .high)) (λ k. getD illuminant k 0 * getD row k 0 / 2 ^ 21) (s .high),
-      weighted-ext 471 v (entryOf (split .low)) (λ k. getD illuminant k 0 * getD row k 0 % 2 ^ 21) (s .low),
+      weighted-ext 471 v (entryOf high) (λ k. getD illuminant k 0 * getD row k 0 / 2 ^ 21) (s .upper),
+      weighted-ext 471 v (entryOf low) (λ k. getD illuminant k 0 * getD row k 0 % 2 ^ 21) (s .lower),
     )
     (line-split (2 ^ 21) 471 v (λ k. getD illuminant k 0 * getD row k 0))

@@ -13,8 +13,7 @@ use crate::tables::Y_BAR_10;
 use crate::tables::Z_BAR;
 use crate::tables::Z_BAR_10;
 ghost use mathlib.Core.Path.{_≡_};
-ghost use lib.ListN.{length, getD};
-ghost use Rattle.curves.specs.Curves.{weightOf};
+ghost use Rattle.curves.specs.Curves.{table, weightOf};
 ghost use Rattle.curves.specs.Columns.{Columns};
 
 // A table: V is ȳ, and V10 is ȳ10.
@@ -30,28 +29,29 @@ pub enum Curve {
     IlluminantD65,
 }
 
-// The entry of a curve at 360 nm and so many places on: 0 past the end. For looking a number up, and on no reading's path:
-// each table is built anew here.
-pub fn weight(curve: Curve, place: usize) -> u64
-    ensures { λ r. ⌜ r ≡ weightOf curve place ⌝ }
+// The whole table of a curve.
+fn table_of(curve: Curve) -> [u64; 471]
+    ensures { λ r. ⌜ r ≡ table curve ⌝ }
 {
     match curve {
-        Curve::XBar => entry(&X_BAR, place),
-        Curve::YBar => entry(&Y_BAR, place),
-        Curve::ZBar => entry(&Z_BAR, place),
-        Curve::XBar10 => entry(&X_BAR_10, place),
-        Curve::YBar10 => entry(&Y_BAR_10, place),
-        Curve::ZBar10 => entry(&Z_BAR_10, place),
-        Curve::VPrime => entry(&V_PRIME, place),
-        Curve::IlluminantA => entry(&ILLUMINANT_A, place),
-        Curve::IlluminantD65 => entry(&ILLUMINANT_D65, place),
+        Curve::XBar => X_BAR,
+        Curve::YBar => Y_BAR,
+        Curve::ZBar => Z_BAR,
+        Curve::XBar10 => X_BAR_10,
+        Curve::YBar10 => Y_BAR_10,
+        Curve::ZBar10 => Z_BAR_10,
+        Curve::VPrime => V_PRIME,
+        Curve::IlluminantA => ILLUMINANT_A,
+        Curve::IlluminantD65 => ILLUMINANT_D65,
     }
 }
 
-fn entry(table: &[u64; 471], place: usize) -> u64
-    requires { ⌜ length (now table) ≡ 471 ⌝ }
-    ensures { λ r. ⌜ r ≡ getD (now (table .entry)) place 0 ⌝ }
+// The entry of a curve at 360 nm and so many places on: 0 past the end. For looking a number up, and on no reading's path:
+// the whole table is built anew for it.
+pub fn weight(curve: Curve, place: usize) -> u64
+    ensures { λ r. ⌜ r ≡ weightOf curve place ⌝ }
 {
+    let table = table_of(curve);
     if place < 471 { table[place] } else { 0 }
 }
 

@@ -1,4 +1,5 @@
-// Weighted sums over the whole nanometres 360 to 830. Each table is lent whole to the one loop, since it is built anew where it is named.
+// Weighted sums over the whole nanometres 360 to 830. Each table is lent whole to the one loop by a function of its own:
+// a table is built anew where it is named, and one match over all tables would look up each entry by the curve.
 use crate::Curve;
 use crate::tables::ILLUMINANT_A;
 use crate::tables::ILLUMINANT_D65;
@@ -17,6 +18,13 @@ ghost use Rattle.exact.specs.Value.{short};
 ghost use Rattle.mixing.specs.Sum.{weighted};
 ghost use Rattle.curves.specs.Curves.{entryOf, weightOf, Row, Halves};
 ghost use Rattle.curves.specs.Tables.{xBar, yBar, zBar, xBar10, yBar10, zBar10, vPrime, illuminantA, illuminantD65};
+
+// The three exact sums of a colour.
+pub struct Sums {
+    pub x: Short,
+    pub y: Short,
+    pub z: Short,
+}
 
 // The weighted sum of a row by any of the curves.
 pub fn weigh(curve: Curve, row: &[u64; 471]) -> Short

@@ -1,17 +1,40 @@
 -- What the checks tell of an accepted panel.
-use mathlib.Core.Path.{_≡_}
+use mathlib.Core.Path.{_≡_, refl}
+use mathlib.Core.Bool.{Bool, true, false}
 use mathlib.Core.List.{List}
 use Prim.Native.Nat.{ℕ}
 use lib.ListN.{length}
-use Rattle.grid.specs.declared.Check.the-variants.{Fine}
-use Rattle.grid.specs.Check.{isObserver, gridCheck, reflectancesCheck, require, refusal, Within}
+use Rattle.grid.specs.declared.Check.the-variants.{Fine, Refused}
+use Rattle.grid.specs.Check.{isObserver, gridCheck, reflectancesCheck, unless, require, refusal, Within}
 use Rattle.grid.proofs.Limit.{passed, fine-within}
 use Rattle.grid.proofs.Accepted.{OnGrid, accepted}
 use Rattle.curves.specs.Split.{Reflected}
 use Rattle.spectrum.specs.Line.{rowOf}
 use Rattle.grid.proofs.Light.{both-fine}
 use Rattle.spectrum.proofs.Light.{row-within}
-use Rattle.panel.specs.Panel.{isIlluminant, surfaceCheck, panelCheck}
+use Rattle.panel.specs.Panel.{isIlluminant, settingCheck, surfaceCheck, panelCheck}
+
+-- the setting and the grid are checked first, and then the reflectances
+pub panel-checked :
+    (o i a s : ℕ) (rs : List ℕ) →
+    panelCheck o i a s rs ≡ unless (settingCheck o i a s (length rs)) Refused (reflectancesCheck rs)
+unfolding panelCheck settingCheck surfaceCheck
+panel-checked o i a s rs = go (isObserver o) (isIlluminant i)
+  where
+    go :
+        (b d : Bool) →
+        require b 6 (require d 7 (unless (gridCheck a s (length rs)) Refused (reflectancesCheck rs)))
+        ≡ unless (require b 6 (require d 7 (gridCheck a s (length rs)))) Refused (reflectancesCheck rs)
+    go true true = refl
+    go true false = refl
+    go false d = refl
+
+pub setting-grid : (o i a s n : ℕ) → settingCheck o i a s n ≡ Fine → gridCheck a s n ≡ Fine
+unfolding settingCheck
+setting-grid o i a s n fine =
+    passed (isIlluminant i) (gridCheck a s n) (refusal 7 0)
+    (passed (isObserver o) (require (isIlluminant i) 7 (gridCheck a s n)) (refusal 6 0) fine .1)
+    .1
 
 pub surface-fine : (o i a s : ℕ) (rs : List ℕ) → panelCheck o i a s rs ≡ Fine → surfaceCheck a s rs ≡ Fine
 unfolding panelCheck

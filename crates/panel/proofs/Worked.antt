@@ -1,24 +1,56 @@
--- What is worked from a panel's sums is the definition's.
+-- What is worked from a panel's sums is the definition's; and a refusal is the panel's.
 use mathlib.Core.Path.{_≡_}
 use mathlib.Core.List.{List}
-use Prim.Native.Nat.{ℕ, _+_, _*_, _^_, _<_}
+use Prim.Native.Nat.{ℕ, _+_, _*_, _^_, _≤_, _<_}
 use native.Mathlib.Nat.{mul-comm}
+use Rattle.grid.specs.declared.Check.{Check}
 use Rattle.grid.specs.declared.Check.the-variants.{Fine}
+use Rattle.grid.specs.declared.Refusal.{Refusal}
 use Rattle.exact.specs.Value.{short}
-use Rattle.answers.specs.declared.work.Sums.{Sums}
-use Rattle.answers.specs.Worked.{xyzFrom}
+use Rattle.curves.specs.declared.weigh.Sums.{Sums}
+use Rattle.answers.specs.declared.XyAnswer.{XyAnswer}
+use Rattle.answers.specs.Worked.{xyzFrom, xyFrom}
+use Rattle.panel.specs.declared.sums.SumsAnswer.{SumsAnswer}
 use Rattle.panel.specs.Panel.{panelCheck, whiteSum, xSum, ySum, zSum}
-use Rattle.panel.specs.Sums.{PanelSums}
-use Rattle.panel.proofs.Surface.{surface-fine}
+use Rattle.panel.specs.Sums.{PanelSums, SumsOf}
+use Rattle.panel.proofs.Surface.{surface-fine, on-grid}
 use Rattle.panel.proofs.Sized.{colour-small}
 
-module _ (o i a s : ℕ) (rs : List ℕ) (sums : Sums) (is : PanelSums o i a s rs sums) where
-  pub total-small : panelCheck o i a s rs ≡ Fine → short (sums .x) + short (sums .y) + short (sums .z) < 2 ^ 96
-  total-small fine = rw (is .x, is .y, is .z) (colour-small a s rs (surface-fine o i a s rs fine) o i)
+module _ (o i a s : ℕ) (rs : List ℕ) (answer : SumsAnswer) (is : SumsOf o i a s rs answer) where
+  pub refused : (r : Refusal) → answer ≡ SumsAnswer.Refused r → panelCheck o i a s rs ≡ Check.Refused r
+  unfolding SumsOf
+  refused r e = rw e at is
 
-  pub xyz-worked :
-      (d : ℕ) → d ≡ s * whiteSum o i →
-      xyzFrom (short (sums .x) * 10) (short (sums .y) * 10) (short (sums .z) * 10) d
-      ≡ xyzFrom (10 * xSum o i a s rs) (10 * ySum o i a s rs) (10 * zSum o i a s rs) (s * whiteSum o i)
-  xyz-worked d e =
-      rw (is .x, is .y, is .z, e, mul-comm (xSum o i a s rs) 10, mul-comm (ySum o i a s rs) 10, mul-comm (zSum o i a s rs) 10)
+  module _ (sums : Sums) (given : answer ≡ SumsAnswer.Given sums) where
+    pub fine : panelCheck o i a s rs ≡ Fine
+    unfolding SumsOf
+    fine = (rw given at is) .0
+
+    sums-are : PanelSums o i a s rs sums
+    unfolding SumsOf
+    sums-are = (rw given at is) .1
+
+    pub step-small : s ≤ 10
+    step-small = on-grid a s rs (surface-fine o i a s rs fine) .step-high
+
+    pub total-small : short (sums .x) + short (sums .y) + short (sums .z) < 2 ^ 96
+    total-small = rw (sums-are .x, sums-are .y, sums-are .z) (colour-small a s rs (surface-fine o i a s rs fine) o i)
+
+    pub xyz-worked :
+        (d : ℕ) → d ≡ s * whiteSum o i →
+        xyzFrom (short (sums .x) * 10) (short (sums .y) * 10) (short (sums .z) * 10) d
+        ≡ xyzFrom (10 * xSum o i a s rs) (10 * ySum o i a s rs) (10 * zSum o i a s rs) (s * whiteSum o i)
+    xyz-worked d e =
+        rw (
+          sums-are .x,
+          sums-are .y,
+          sums-are .z,
+          e,
+          mul-comm (xSum o i a s rs) 10,
+          mul-comm (ySum o i a s rs) 10,
+          mul-comm (zSum o i a s rs) 10,
+        )
+
+    pub xy-worked :
+        xyFrom (short (sums .x)) (short (sums .y)) (short (sums .z)) ≡ xyFrom (xSum o i a s rs) (ySum o i a s rs) (zSum o i a s rs)
+    xy-worked = rw (sums-are .x, sums-are .y, sums-are .z)

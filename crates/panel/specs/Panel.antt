@@ -29,6 +29,10 @@ illuminantOf i = cond (eqb i 2) IlluminantD65 IlluminantA
 unfoldable pub surfaceCheck : ℕ → ℕ → List ℕ → Check
 surfaceCheck a s rs = unless (gridCheck a s (length rs)) Refused (reflectancesCheck rs)
 
+-- OBSERVER, ILLUMINANT, and then the grid's own refusals
+unfoldable pub settingCheck : ℕ → ℕ → ℕ → ℕ → ℕ → Check
+settingCheck o i a s n = require (isObserver o) 6 (require (isIlluminant i) 7 (gridCheck a s n))
+
 -- OBSERVER, ILLUMINANT, and then the reflectances' own refusals
 unfoldable pub panelCheck : ℕ → ℕ → ℕ → ℕ → List ℕ → Check
 panelCheck o i a s rs = require (isObserver o) 6 (require (isIlluminant i) 7 (surfaceCheck a s rs))

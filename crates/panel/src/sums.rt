@@ -1,48 +1,72 @@
-// The three sums of an accepted panel: illuminant times T, weighed by the observer's curves.
-use crate::reflectances::reflected_row;
-use answers::sums::row_sums;
-use answers::work::Sums;
-use curves::lit::Split;
-use curves::lit::lit_by_a;
-use curves::lit::lit_by_d65;
-use exact::digits::short_times_plus;
+// The three sums of a panel, or its first refusal.
+use crate::lit::lit_sums;
+use crate::reflectances::widened;
+use curves::weigh::Sums;
+use grid::Check;
+use grid::Refusal;
+use grid::check_grid;
+use grid::check_limit;
+use grid::is_observer;
+use grid::refused;
 ghost use mathlib.Core.Path.{_≡_};
-ghost use Rattle.grid.specs.declared.Check.the-variants.{Fine};
-ghost use Rattle.curves.specs.Curves.{table};
-ghost use Rattle.curves.specs.Split.{Reflected, SplitOf};
-ghost use Rattle.panel.specs.Panel.{illuminantOf, panelCheck};
-ghost use Rattle.panel.specs.Sums.{PanelSums};
+ghost use Rattle.panel.specs.Panel.{isIlluminant, settingCheck};
+ghost use Rattle.panel.specs.Sums.{SumsOf};
 
-// Each is high · 2^21 + low, from the two parts that the products are split into.
+pub enum SumsAnswer {
+    Given(Sums),
+    Refused(Refusal),
+}
+
+// The reflectances are widened to samples once, so they share the samples' check and line.
 pub fn panel_sums(
     observer: u32,
     illuminant: u32,
     start: u32,
     step: u32,
     reflectances: &[u16],
-) -> Sums
-    requires { ⌜ panelCheck observer illuminant start step (now reflectances) ≡ Fine ⌝ }
-    ensures { λ r. ⌜ PanelSums observer illuminant start step (now (reflectances .entry)) r ⌝ }
+) -> SumsAnswer
+    ensures { λ r. ⌜ SumsOf observer illuminant start step (now (reflectances .entry)) r ⌝ }
 {
-    let row = reflected_row(start, step, reflectances);
-    let split = lit(illuminant, &row);
-    let high = row_sums(observer, &split.high);
-    let low = row_sums(observer, &split.low);
-    Sums {
-        x: short_times_plus(high.x, 2097152, low.x),
-        y: short_times_plus(high.y, 2097152, low.y),
-        z: short_times_plus(high.z, 2097152, low.z),
+    let count = reflectances.len();
+    let setting = check_setting(observer, illuminant, start, step, count);
+    match setting {
+        Check::Fine => {
+            let wide = widened(reflectances);
+            let samples = &wide[..count];
+            let limit = check_limit(8, 10000, samples);
+            match limit {
+                Check::Fine => SumsAnswer::Given(lit_sums(
+                    observer,
+                    illuminant,
+                    start,
+                    step,
+                    samples,
+                )),
+                Check::Refused(refusal) => SumsAnswer::Refused(refusal),
+            }
+        }
+        Check::Refused(refusal) => SumsAnswer::Refused(refusal),
     }
 }
 
-// 1 is A, 2 is D65.
-fn lit(illuminant: u32, row: &[u64; 471]) -> Split
-    requires { ⌜ Reflected (now row) ⌝ }
-    ensures { λ r. ⌜ SplitOf (table (illuminantOf illuminant)) (now (row .entry)) r ⌝ }
+// OBSERVER, ILLUMINANT, and then STEP, START and COUNT.
+fn check_setting(observer: u32, illuminant: u32, start: u32, step: u32, count: usize) -> Check
+    ensures { λ r. ⌜ r ≡ settingCheck observer illuminant start step count ⌝ }
 {
-    if illuminant == 2 {
-        lit_by_d65(row)
-    } else {
-        lit_by_a(row)
+    if !is_observer(observer) {
+        return refused(6);
     }
+    if !is_illuminant(illuminant) {
+        return refused(7);
+    }
+    check_grid(start, step, count)
+}
+
+fn is_illuminant(illuminant: u32) -> bool
+    ensures { λ r. ⌜ r ≡ isIlluminant illuminant ⌝ }
+{
+    if illuminant == 1 {
+        return true;
+    }
+    illuminant == 2
 }

@@ -4,7 +4,7 @@ use mathlib.Core.List.{List}
 use Prim.Native.Nat.{ℕ}
 use Rattle.spectrum.specs.Line.{rowOf}
 use Rattle.spectrum.proofs.Light.{row-weighed}
-use Rattle.answers.specs.declared.work.Sums.{Sums}
+use Rattle.curves.specs.declared.weigh.Sums.{Sums}
 use Rattle.answers.specs.Sums.{RowSums}
 use Rattle.readings.specs.Colour.{LightSums}
 

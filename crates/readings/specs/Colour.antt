@@ -3,7 +3,7 @@ use mathlib.Core.Path.{_≡_}
 use mathlib.Core.List.{List}
 use Prim.Native.Nat.{ℕ}
 use Rattle.exact.specs.Value.{short}
-use Rattle.answers.specs.declared.work.Sums.{Sums}
+use Rattle.curves.specs.declared.weigh.Sums.{Sums}
 use Rattle.readings.specs.Readings.{xSum, ySum, zSum}
 
 -- the sums of a light, W of each of the observer's curves

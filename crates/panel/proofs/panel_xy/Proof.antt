@@ -1,51 +1,45 @@
 -- The coordinates come from the exact sums of an accepted panel.
-use mathlib.Core.Path.{_≡_, _∙_, sym}
-use Rattle.grid.specs.declared.Check.the-variants.{Fine}
-use Rattle.panel.specs.Panel.{panelCheck, panelXyOf}
-use Rattle.panel.proofs.Worked.{total-small}
+use mathlib.Core.Path.{_∙_, ap}
 use borrow.Author.Needs.{needs}
+use Rattle.panel.specs.Panel.{panelXyOf}
+use Rattle.panel.proofs.Worked.{refused, fine, total-small, xy-worked}
 use Rattle.panel.proofs.panel_xy.Statement.{statement}
 use Rattle.panel.proofs.panel_xy.Tie as tie
 
--- all checks are fine in this arm
-fine : (c : tie.After-enum-told) → panelCheck (c .before .before .before .before .args .observer) (c .before .before .before .before .args .illuminant) (c .before .before .before .before .args .start) (c .before .before .before .before .args .step) (c .before .before .before .before .args .reflectances .now) ≡ Fine
-fine c = sym (c .before .before .check-panel .ensures) ∙ c .enum-told .given .1
-
-check-panel-requires : tie.Need-check-panel-requires
-check-panel-requires c κs = search needs
-
-enum-told : tie.Need-enum-told
-enum-told c = search needs
-
 panel-sums-requires : tie.Need-panel-sums-requires
-panel-sums-requires c κs = fine c
+panel-sums-requires c κs = search needs
+
+enum-known-answer : tie.Need-enum-known-answer
+enum-known-answer c = search needs
 
 xy-from-requires : tie.Need-xy-from-requires
 xy-from-requires c κs =
-    let s = c .before .before .before .before .before .args in
-    total-small (s .observer) (s .illuminant) (s .start) (s .step) (s .reflectances .now) (c .panel-sums .result) (c .panel-sums .ensures) (fine (c .before))
+    let t = c .before .before .before .before .before .args in
+    total-small (t .observer) (t .illuminant) (t .start) (t .step) (t .reflectances .now) (c .before .before .before .panel-sums .result) (c .before .before .before .panel-sums .ensures) _ (c .before .answer .given .1)
 
-enum-known-check : tie.Need-enum-known-check
-enum-known-check c = search needs
+enum-known-answer-2 : tie.Need-enum-known-answer-2
+enum-known-answer-2 c = search needs
 
 returns : tie.Need-returns
 unfolding panelXyOf
 returns c =
-    let sums = c .before .panel-sums .ensures in
-    c .xy-from .ensures ∙ rw (sums .x, sums .y, sums .z, fine (c .before .before))
+    let t = c .before .before .before .before .before .before .args in
+    rw (fine (t .observer) (t .illuminant) (t .start) (t .step) (t .reflectances .now) (c .before .before .before .before .panel-sums .result) (c .before .before .before .before .panel-sums .ensures) _ (c .before .before .answer .given .1))
+    (c .xy-from .ensures ∙ xy-worked (t .observer) (t .illuminant) (t .start) (t .step) (t .reflectances .now) (c .before .before .before .before .panel-sums .result) (c .before .before .before .before .panel-sums .ensures) _ (c .before .before .answer .given .1))
 
 returns-2 : tie.Need-returns-2
 unfolding panelXyOf
-returns-2 c = rw (sym (c .before .before .before .check-panel .ensures) ∙ c .before .check .given .1)
+returns-2 c =
+    let t = c .before .before .before .before .before .args in
+    rw (refused (t .observer) (t .illuminant) (t .start) (t .step) (t .reflectances .now) (c .before .before .before .panel-sums .result) (c .before .before .before .panel-sums .ensures) _ (c .before .answer2 .given .1))
 
 pub panel-xy-spec : {M : Type 1} → statement M
 panel-xy-spec =
     tie.close
     (tie.spec
-    check-panel-requires
-    enum-told
     panel-sums-requires
+    enum-known-answer
     xy-from-requires
-    enum-known-check
+    enum-known-answer-2
     returns
     returns-2)

@@ -7,7 +7,7 @@ use Rattle.curves.proofs.lit.lit_by_a.Tie as tie
 
 lit-by-requires : tie.Need-lit-by-requires
 unfolding illuminantA
-lit-by-requires c κs = (a-small, c .before .pre)
+lit-by-requires c κs = (c .before .before .pre .0, a-small, c .before .before .pre .1)
 
 returns : tie.Need-returns
 unfolding table illuminantA

@@ -7,7 +7,7 @@ use Rattle.curves.proofs.lit.lit_by_d65.Tie as tie
 
 lit-by-requires : tie.Need-lit-by-requires
 unfolding illuminantD65
-lit-by-requires c κs = (d65-small, c .before .pre)
+lit-by-requires c κs = (c .before .before .pre .0, d65-small, c .before .before .pre .1)
 
 returns : tie.Need-returns
 unfolding table illuminantD65

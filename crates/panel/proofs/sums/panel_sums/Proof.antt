@@ -1,61 +1,108 @@
--- An accepted panel's row is laid, lit and weighed in two parts.
-use Rattle.panel.proofs.Surface.{surface-fine, grid-fine, row-small}
-use Rattle.panel.proofs.Weighed.{panel-sums}
+-- The setting and the grid are checked first, then the widened reflectances, which are the reflectances; then they are summed.
+use mathlib.Core.Path.{_≡_, sym, _∙_, ap}
+use Prim.Native.Nat.{_≤_}
+use lib.ListN.{length}
 use borrow.Author.Needs.{needs}
+use Rattle.grid.specs.declared.Check.the-variants.{Fine}
+use Rattle.grid.specs.Check.{reflectancesCheck}
+use Rattle.grid.proofs.Accepted.{accepted}
+use Rattle.panel.specs.Panel.{settingCheck, surfaceCheck}
+use Rattle.panel.specs.Sums.{SumsOf}
+use Rattle.panel.proofs.Surface.{panel-checked, setting-grid}
 use Rattle.panel.proofs.sums.panel_sums.Statement.{statement}
 use Rattle.panel.proofs.sums.panel_sums.Tie as tie
 
-reflected-row-requires : tie.Need-reflected-row-requires
-reflected-row-requires c κs =
-    let s = c .before in
-    let t = s .args in
-    grid-fine (t .start) (t .step) (t .reflectances .now) (surface-fine (t .observer) (t .illuminant) (t .start) (t .step) (t .reflectances .now) (s .pre))
+-- the setting and the grid are fine in this arm
+setting-fine : (c : tie.After-enum-told) → settingCheck (c .before .before .before .before .args .observer) (c .before .before .before .before .args .illuminant) (c .before .before .before .before .args .start) (c .before .before .before .before .args .step) (length (c .before .before .before .before .args .reflectances .now)) ≡ Fine
+setting-fine c = sym (c .before .before .check-setting .ensures) ∙ c .enum-told .given .1
 
-lit-requires : tie.Need-lit-requires
-lit-requires c κs =
-    let s = c .before .before .before in
-    let t = s .args in
-    rw (c .before .reflected-row .ensures)
-    (row-small (t .start) (t .step) (t .reflectances .now) (surface-fine (t .observer) (t .illuminant) (t .start) (t .step) (t .reflectances .now) (s .pre)))
+few : (c : tie.After-enum-told) → length (c .before .before .before .before .args .reflectances .now) ≤ 531
+few c =
+    let s = c .before .before .before .before .args in
+    let n = length (s .reflectances .now) in
+    accepted (s .start) (s .step) n (setting-grid (s .observer) (s .illuminant) (s .start) (s .step) n (setting-fine c)) .many
 
-row-sums-requires : tie.Need-row-sums-requires
-row-sums-requires c κs = search needs
+-- and so are the reflectances in this one
+reflectances-fine : (c : tie.After-enum-told2) → reflectancesCheck (c .before .before .before .before .before .before .before .before .before .args .reflectances .now) ≡ Fine
+reflectances-fine c =
+    sym (rw (c .before .before .before .before .widened .ensures .first) at (c .before .before .check-limit .ensures)) ∙ c .enum-told2 .given .1
 
-row-sums-requires-2 : tie.Need-row-sums-requires-2
-row-sums-requires-2 c κs = search needs
+check-setting-requires : tie.Need-check-setting-requires
+check-setting-requires c κs = search needs
 
-short-times-plus-requires : tie.Need-short-times-plus-requires
-short-times-plus-requires c κs = search needs
+enum-told : tie.Need-enum-told
+enum-told c = search needs
 
-short-times-plus-requires-2 : tie.Need-short-times-plus-requires-2
-short-times-plus-requires-2 c κs = search needs
+widened-requires : tie.Need-widened-requires
+widened-requires c κs = few c
 
-short-times-plus-requires-3 : tie.Need-short-times-plus-requires-3
-short-times-plus-requires-3 c κs = search needs
+array-share-prefix-wide : tie.Need-array-share-prefix-wide
+array-share-prefix-wide c = rw (c .widened .ensures .long) (few (c .before))
+
+slice-aggregate-samples : tie.Need-slice-aggregate-samples
+slice-aggregate-samples c = ap length (sym (c .before .widened .ensures .first))
+
+check-limit-requires : tie.Need-check-limit-requires
+check-limit-requires c κs = search needs
+
+enum-told-2 : tie.Need-enum-told-2
+enum-told-2 c = search needs
+
+lit-sums-requires : tie.Need-lit-sums-requires
+unfolding surfaceCheck
+lit-sums-requires c κs =
+    let s = c .before .before .before .before .before .before .before .before .before .args in
+    let n = length (s .reflectances .now) in
+    rw (
+      c .before .before .before .before .widened .ensures .first,
+      setting-grid (s .observer) (s .illuminant) (s .start) (s .step) n (setting-fine (c .before .before .before .before .before)),
+    )
+    (reflectances-fine c)
+
+enum-known-limit : tie.Need-enum-known-limit
+enum-known-limit c = search needs
+
+enum-known-setting : tie.Need-enum-known-setting
+enum-known-setting c = search needs
 
 returns : tie.Need-returns
+unfolding SumsOf
 returns c =
-    let two = c .before .before .before in
-    let one = two .before .before .before in
-    let lit = one .before .before .before in
-    let row = lit .before .before in
-    let s = row .before .before in
-    let t = s .args in
-    panel-sums (t .observer) (t .illuminant) (t .start) (t .step) (t .reflectances .now)
-    (surface-fine (t .observer) (t .illuminant) (t .start) (t .step) (t .reflectances .now) (s .pre)) (lit .lit .result)
-    (rw (row .reflected-row .ensures) at (lit .lit .ensures)) (one .row-sums .result) (two .row-sums2 .result) _ (one .row-sums .ensures)
-    (two .row-sums2 .ensures) (c .before .before .short-times-plus .ensures) (c .before .short-times-plus2 .ensures)
-    (c .short-times-plus3 .ensures)
+    let s = c .before .before .before .before .before .before .before .before .before .before .args in (
+      panel-checked (s .observer) (s .illuminant) (s .start) (s .step) (s .reflectances .now)
+          ∙ rw (setting-fine (c .before .before .before .before .before .before)) (reflectances-fine (c .before)),
+      rw (c .before .before .before .before .before .widened .ensures .first) at (c .lit-sums .ensures),
+    )
+
+returns-2 : tie.Need-returns-2
+unfolding SumsOf
+returns-2 c =
+    let s = c .before .before .before .before .before .before .before .before .before .before .args in
+    panel-checked (s .observer) (s .illuminant) (s .start) (s .step) (s .reflectances .now)
+    ∙ rw (setting-fine (c .before .before .before .before .before .before))
+    (sym (rw (c .before .before .before .before .before .widened .ensures .first) at (c .before .before .before .check-limit .ensures)) ∙ c .before .limit .given .1)
+
+returns-3 : tie.Need-returns-3
+unfolding SumsOf
+returns-3 c =
+    let s = c .before .before .before .before .before .args in
+    panel-checked (s .observer) (s .illuminant) (s .start) (s .step) (s .reflectances .now)
+    ∙ rw (sym (c .before .before .before .check-setting .ensures) ∙ c .before .setting .given .1)
 
 pub panel-sums-spec : {M : Type 1} → statement M
 panel-sums-spec =
     tie.close
     (tie.spec
-    reflected-row-requires
-    lit-requires
-    row-sums-requires
-    row-sums-requires-2
-    short-times-plus-requires
-    short-times-plus-requires-2
-    short-times-plus-requires-3
-    returns)
+    check-setting-requires
+    enum-told
+    widened-requires
+    array-share-prefix-wide
+    slice-aggregate-samples
+    check-limit-requires
+    enum-told-2
+    lit-sums-requires
+    enum-known-limit
+    enum-known-setting
+    returns
+    returns-2
+    returns-3)

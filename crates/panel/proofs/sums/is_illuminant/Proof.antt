@@ -1,7 +1,7 @@
 -- Two tests.
 use borrow.Author.Tests.{ne-eqb}
-use Rattle.panel.proofs.is_illuminant.Statement.{statement}
-use Rattle.panel.proofs.is_illuminant.Tie as tie
+use Rattle.panel.proofs.sums.is_illuminant.Statement.{statement}
+use Rattle.panel.proofs.sums.is_illuminant.Tie as tie
 
 returns : tie.Need-returns
 returns c = rw (c .if1 .taken)

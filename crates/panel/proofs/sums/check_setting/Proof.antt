@@ -1,10 +1,10 @@
 -- The observer is checked first, and then the illuminant.
 use mathlib.Core.Path.{sym, _∙_}
 use borrow.Author.Tests.{not-true, not-false}
-use Rattle.panel.specs.Panel.{panelCheck}
+use Rattle.panel.specs.Panel.{settingCheck}
 use borrow.Author.Needs.{needs}
-use Rattle.panel.proofs.check_panel.Statement.{statement}
-use Rattle.panel.proofs.check_panel.Tie as tie
+use Rattle.panel.proofs.sums.check_setting.Statement.{statement}
+use Rattle.panel.proofs.sums.check_setting.Tie as tie
 
 is-observer-requires : tie.Need-is-observer-requires
 is-observer-requires c κs = search needs
@@ -13,7 +13,7 @@ refused-requires : tie.Need-refused-requires
 refused-requires c κs = search needs
 
 returns : tie.Need-returns
-unfolding panelCheck
+unfolding settingCheck
 returns c = rw (sym (c .before .before .is-observer .ensures) ∙ not-true _ (c .before .if1 .taken)) (c .refused .ensures)
 
 is-illuminant-requires : tie.Need-is-illuminant-requires
@@ -23,7 +23,7 @@ refused-requires-2 : tie.Need-refused-requires-2
 refused-requires-2 c κs = search needs
 
 returns-2 : tie.Need-returns-2
-unfolding panelCheck
+unfolding settingCheck
 returns-2 c =
     rw (
       sym (c .before .before .before .before .is-observer .ensures) ∙ not-false _ (c .before .before .before .if1 .left),
@@ -31,20 +31,20 @@ returns-2 c =
     )
     (c .refused2 .ensures)
 
-check-reflectances-requires : tie.Need-check-reflectances-requires
-check-reflectances-requires c κs = search needs
+check-grid-requires : tie.Need-check-grid-requires
+check-grid-requires c κs = search needs
 
 returns-3 : tie.Need-returns-3
-unfolding panelCheck
+unfolding settingCheck
 returns-3 c =
     rw (
       sym (c .before .before .before .before .is-observer .ensures) ∙ not-false _ (c .before .before .before .if1 .left),
       sym (c .before .before .is-illuminant .ensures) ∙ not-false _ (c .before .if2 .left),
     )
-    (c .check-reflectances .ensures)
+    (c .check-grid .ensures)
 
-pub check-panel-spec : {M : Type 1} → statement M
-check-panel-spec =
+pub check-setting-spec : {M : Type 1} → statement M
+check-setting-spec =
     tie.close
     (tie.spec
     is-observer-requires
@@ -53,5 +53,5 @@ check-panel-spec =
     is-illuminant-requires
     refused-requires-2
     returns-2
-    check-reflectances-requires
+    check-grid-requires
     returns-3)

@@ -1,0 +1,39 @@
+// The three sums of an accepted panel: illuminant times T, weighed by the observer's curves.
+use curves::lit::lit_by_a;
+use curves::lit::lit_by_d65;
+use curves::lit::sums_2;
+use curves::lit::sums_10;
+use curves::weigh::Sums;
+use spectrum::line::row_of;
+ghost use mathlib.Core.Path.{_≡_};
+ghost use lib.ListN.{length};
+ghost use Rattle.grid.specs.declared.Check.the-variants.{Fine};
+ghost use Rattle.curves.specs.Curves.{table};
+ghost use Rattle.curves.specs.Split.{Reflected, SplitOf};
+ghost use Rattle.panel.specs.Panel.{illuminantOf, surfaceCheck};
+ghost use Rattle.panel.specs.Sums.{PanelSums};
+
+pub fn lit_sums(observer: u32, illuminant: u32, start: u32, step: u32, reflectances: &[u32]) -> Sums
+    requires { ⌜ surfaceCheck start step (now reflectances) ≡ Fine ⌝ }
+    ensures { λ r. ⌜ PanelSums observer illuminant start step (now (reflectances .entry)) r ⌝ }
+{
+    let mut low = row_of(start, step, reflectances);
+    let high = lit(illuminant, &mut low);
+    if observer == 10 {
+        sums_10(&high, &low)
+    } else {
+        sums_2(&high, &low)
+    }
+}
+
+// 1 is A, 2 is D65.
+fn lit(illuminant: u32, row: &mut [u64; 471]) -> [u64; 471]
+    requires { ⌜ (length (now row) ≡ 471) × Reflected (now row) ⌝ }
+    ensures { λ r. ⌜ SplitOf (table (illuminantOf illuminant)) (now (row .entry)) r (now (row .exit)) ⌝ }
+{
+    if illuminant == 2 {
+        lit_by_d65(row)
+    } else {
+        lit_by_a(row)
+    }
+}
