@@ -1,3 +1,4 @@
 -- Laws of the flat answers.
 pub mod Sizes
 pub mod PanelPlaces
+pub mod Determined
