@@ -2,3 +2,4 @@
 pub mod Asked
 pub mod Rows
 pub mod Bench
+pub mod Slips

@@ -19,11 +19,11 @@ abbrev refuses : Asked → ℕ → ℕ → Row
 refuses asked number place = record { asked = asked; answer = refusedWith (refusal number place) }
 
 -- n samples, all 0 but v at place i
-abbrev lone : ℕ → ℕ → ℕ → List ℕ
+abbrev pub lone : ℕ → ℕ → ℕ → List ℕ
 lone n i v = replicate i 0 ++ v ∷ replicate (n - i - 1) 0
 
 -- from 380 nm at step 1, 401 samples, all 0 but v at a wavelength's place: 460 and 485 nm
-abbrev at460 : ℕ → List ℕ
+abbrev pub at460 : ℕ → List ℕ
 at460 v = lone 401 80 v
 
 abbrev at485 : ℕ → List ℕ
@@ -74,6 +74,10 @@ rows =
     -- our own: a lone 1 at 460, whose X and Y round to 0
     ∷ gives (xyz 2 380 1 (at460 1)) (0 ∷ 0 ∷ 1 ∷ [])
     ∷ gives (xy 2 380 1 (at460 1)) (14396 ∷ 2970 ∷ [])
+    -- our own: a lone 1 at 555 at step 5, whose line would be lost if T were divided by s
+    ∷ gives (photopic 380 5 (lone 81 35 1)) (3 ∷ [])
+    -- our own: 1,000,000 at 700, where z̄ is empty
+    ∷ gives (xyz 2 380 1 (lone 401 320 1000000)) (7758 ∷ 2802 ∷ 0 ∷ [])
     -- our own: lit at 359 nm alone, at step 1, which carries no weight
     ∷ gives (photopic 300 1 (lone 531 59 1000000)) (0 ∷ [])
     ∷ refuses (xy 2 300 1 (lone 531 59 1000000)) 9 0

@@ -1,0 +1,54 @@
+-- Slips that this trade makes, each a version of its own, and a row of the table where it gives another number than ours.
+use mathlib.Core.Path.{_≡_}
+use mathlib.Core.List.{List, [], _∷_}
+use Prim.Native.Nat.{ℕ, zero, suc, _+_, _*_, _-_, _/_, _^_}
+use lib.ListN.{length, getD}
+use Rattle.mixing.specs.Nearest.{nearest}
+use Rattle.mixing.specs.Sum.{total, weighted}
+use Rattle.curves.specs.declared.Curve.the-variants.{YBar}
+use Rattle.curves.specs.Tables.{zBar}
+use Rattle.curves.specs.Curves.{weightOf, entryOf}
+use Rattle.spectrum.specs.Line.{T}
+use Rattle.answers.specs.Said.{value}
+use Rattle.figures.specs.Asked.{Asked, answerOf, photopic, xyz, xy}
+use Rattle.figures.specs.Rows.{lone, at460}
+
+-- x from the rounded X, Y, Z
+abbrev pub xFromRounded : ℕ → ℕ → ℕ → ℕ
+xFromRounded x y z = nearest (100000 * x) (x + y + z)
+
+-- photopic illuminance with each product rounded before they are added up
+abbrev pub eachRounded : ℕ → ℕ → List ℕ → ℕ
+eachRounded a s xs = total 471 (λ k. nearest (683 * (weightOf YBar k * T a s xs (360 + k))) (s * 10 ^ 16))
+
+-- with the weights at the samples alone, times the step, instead of the straight line
+abbrev pub atSamples : ℕ → ℕ → List ℕ → ℕ
+atSamples a s xs =
+    nearest (683 * (s * total (length xs) (λ i. weightOf YBar (a + s * i - 360) * getD xs i 0))) (10 ^ 16)
+
+-- with T divided by s before it is weighed
+abbrev pub dividedEarly : ℕ → ℕ → List ℕ → ℕ
+dividedEarly a s xs = nearest (683 * weighted 471 (weightOf YBar) (λ k. T a s xs (360 + k) / s)) (10 ^ 16)
+
+-- a column in which an empty place is read as the entry above
+unfoldable pub filledDown : ℕ → List ℕ → List ℕ
+filledDown above [] = []
+filledDown above (zero ∷ xs) = above ∷ filledDown above xs
+filledDown above (suc x ∷ xs) = suc x ∷ filledDown (suc x) xs
+
+-- Z by such a column
+abbrev pub zFilled : ℕ → ℕ → List ℕ → ℕ
+zFilled a s xs = nearest (683 * weighted 471 (entryOf (filledDown 0 zBar)) (λ k. T a s xs (360 + k))) (s * 10 ^ 16)
+
+-- the version gives one number, and value i of what was asked is another
+abbrev pub Apart : ℕ → ℕ → Asked → ℕ → ℕ → Type 0
+Apart version slip asked i ours = (version ≡ slip) × (value (answerOf asked) i ≡ ours)
+
+pub record Slips : Type 0 where
+  pub x-from-rounded :
+      let said = answerOf (xyz 2 380 1 (at460 1)) in
+      Apart (xFromRounded (value said 0) (value said 1) (value said 2)) 0 (xy 2 380 1 (at460 1)) 0 14396
+  pub each-rounded : Apart (eachRounded 380 5 (lone 81 16 1000000)) 205364 (photopic 380 5 (lone 81 16 1000000)) 0 205365
+  pub at-samples : Apart (atSamples 380 5 (lone 81 16 1000000)) 204900 (photopic 380 5 (lone 81 16 1000000)) 0 205365
+  pub divided-early : Apart (dividedEarly 380 5 (lone 81 35 1)) 1 (photopic 380 5 (lone 81 35 1)) 0 3
+  pub filled-down : Apart (zFilled 380 1 (lone 401 320 1000000)) 1 (xyz 2 380 1 (lone 401 320 1000000)) 2 0
