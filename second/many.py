@@ -14,8 +14,16 @@ The generator. A state runs from 1 to 2147483646. A draw makes it s * 48271 % 21
 6. d: observer is OBSERVER[d % 8].
 7. d: illuminant is ILLUMINANT[d % 8].
 
-The reflectances are the samples % 10001, in mode 5 % 10007.
+8. d: the record is written where there is room for d % 1332 bytes, and then where there is room for any.
+9. d: in a record that is written, one byte is damaged: of its length, the last where d % 4 is 1, the one at
+   d // 4 % length where d % 4 is 3, else the one at d // 4 % 3.
+10. d: 1 + d % 255 is added to that byte, % 256; and the last d // 255 % 2 bytes are cut off.
+11. d: the damaged record is read into a row with room for 531 where d is even, else for d // 2 % 532.
+
+The reflectances are the samples % 10001, in mode 5 % 10007. A float is printed as the number of its 64 bits.
 """
+
+import struct
 
 import light
 
@@ -80,7 +88,9 @@ def shown(answer):
 def shown_chart(answer):
     if isinstance(answer, light.Refused):
         return shown(answer)
-    return "dark" if answer == "dark" else "point"
+    if answer == "dark":
+        return answer
+    return shown([int.from_bytes(struct.pack(">d", x), "big") for x in answer])
 
 
 def shown_figures(answer):
@@ -90,16 +100,36 @@ def shown_figures(answer):
     return shown((*readings, *("--" if colour == "dark" else colour)))
 
 
-def shown_record(start, step, samples):
-    """Of the record: its length and the sum of its bytes, and then what reading it gives."""
+def shown_read(record, room):
+    answer = light.read_record(record, room)
+    if isinstance(answer, light.Refused):
+        return shown(answer)
+    start, step, samples = answer
+    return shown((start, step, len(samples), sum(samples)))
+
+
+def damaged(draws, record):
+    d, e = draws.draw(), draws.draw()
+    place = {1: len(record) - 1, 3: d // 4 % len(record)}.get(d % 4, d // 4 % 3)
+    other = bytearray(record)
+    other[place] = (other[place] + 1 + e % 255) % 256
+    return bytes(other[: len(record) - e // 255 % 2])
+
+
+def shown_record(draws, start, step, samples):
+    """The answer where there is little room; the length and the sum of the bytes; read back; and read again, damaged."""
+    cramped = light.write_record(start, step, samples, draws.draw() % 1332)
     record = light.write_record(start, step, samples, 1331)
     if isinstance(record, light.Refused):
-        return [shown(record)]
-    answer = light.read_record(record, 531)
-    if not isinstance(answer, light.Refused):
-        start, step, samples = answer
-        answer = start, step, len(samples), sum(samples)
-    return [shown((len(record), sum(record))), shown(answer)]
+        return [shown(cramped), shown(record)]
+    other = damaged(draws, record)
+    d = draws.draw()
+    return [
+        shown(cramped if isinstance(cramped, light.Refused) else len(cramped)),
+        shown((len(record), sum(record))),
+        shown_read(record, 531),
+        shown_read(other, 531 if d % 2 == 0 else d // 2 % 532),
+    ]
 
 
 def line(i):
@@ -129,7 +159,7 @@ def line(i):
         shown(light.panel_xyz(*panel)),
         shown(light.panel_xy(*panel)),
         shown_chart(light.panel_chart(*panel)),
-        *shown_record(*lit),
+        *shown_record(draws, *lit),
     ]
     return f"{i}: {' '.join(answers)}"
 

@@ -15,8 +15,15 @@
 // 6. d: observer is the entry at d % 8 of 2, 10, 2, 10, 2, 10, 3, 0.
 // 7. d: illuminant is the entry at d % 8 of 1, 2, 1, 2, 1, 2, 0, 3.
 //
-// The reflectances are the samples % 10001, in mode 5 % 10007.
+// 8. d: the record is written where there is room for d % 1332 bytes, and then where there is room for any.
+// 9. d: in a record that is written, one byte is damaged: of its length, the last where d % 4 is 1, the one at d / 4 % length
+//    where d % 4 is 3, else the one at d / 4 % 3.
+// 10. d: 1 + d % 255 is added to that byte, % 256; and the last d / 255 % 2 bytes are cut off.
+// 11. d: the damaged record is read into a row with room for 531 where d is even, else for d / 2 % 532.
+//
+// The reflectances are the samples % 10001, in mode 5 % 10007. A float is printed as the number of its 64 bits.
 mod made;
+mod records;
 mod shown;
 
 use made::draw;
@@ -53,7 +60,8 @@ fn filled(start: u32, step: u32, count: usize, d: u64)
     let f = draw(e);
     let k = made::setting_from(e);
     let observer = made::observer_from(f);
-    let illuminant = made::illuminant_from(draw(f));
+    let g = draw(f);
+    let illuminant = made::illuminant_from(g);
     let mut reflectances = [0u16; 532];
     made::reflect(mode, &samples, &mut reflectances);
     whole(
@@ -65,6 +73,7 @@ fn filled(start: u32, step: u32, count: usize, d: u64)
         &samples,
         &reflectances,
         count,
+        g,
     );
 }
 
@@ -78,8 +87,9 @@ fn whole(
     samples: &[u32; 532],
     reflectances: &[u16; 532],
     count: usize,
+    d: u64,
 )
-    requires { ⌜ count ≤ 532 ⌝ }
+    requires { ⌜ (count ≤ 532) × (d < 2147483647) ⌝ }
 {
     part(
         k,
@@ -90,6 +100,7 @@ fn whole(
         samples,
         reflectances,
         count,
+        d,
     );
 }
 
@@ -102,9 +113,11 @@ fn part(
     samples: &[u32],
     reflectances: &[u16],
     count: usize,
+    d: u64,
 )
     requires { do ⌜ count ≤ (← ⟦samples.len()⟧) ⌝ }
     requires { do ⌜ count ≤ (← ⟦reflectances.len()⟧) ⌝ }
+    requires { ⌜ d < 2147483647 ⌝ }
 {
     answers(
         k,
@@ -114,6 +127,7 @@ fn part(
         step,
         &samples[..count],
         &reflectances[..count],
+        d,
     );
 }
 
@@ -125,11 +139,14 @@ fn answers(
     step: u32,
     samples: &[u32],
     reflectances: &[u16],
-) {
+    d: u64,
+)
+    requires { ⌜ d < 2147483647 ⌝ }
+{
     light(k, start, step, samples);
     colour(observer, start, step, samples);
     panel(observer, illuminant, start, step, reflectances);
-    shown::record(start, step, samples);
+    records::record(start, step, samples, d);
 }
 
 fn light(k: u32, start: u32, step: u32, samples: &[u32]) {

@@ -1,8 +1,8 @@
 -- The loop's invariant: the sum is at most 255 for each byte passed.
 use Prim.Native.Nat.{_≤_, _*_, _-_}
 use borrow.Author.Needs.{needs}
-use Rattle.many.proofs.shown.sum_of_bytes.Statement.{statement}
-use Rattle.many.proofs.shown.sum_of_bytes.Tie as tie
+use Rattle.many.proofs.records.sum_of_bytes.Statement.{statement}
+use Rattle.many.proofs.records.sum_of_bytes.Tie as tie
 
 abbrev Inv-loop : tie.InvT-loop
 Inv-loop bytes count sum₀ k₀ sum k = (k ≤ count) × (sum ≤ 255 * k)
@@ -13,8 +13,8 @@ abbrev μ-loop : tie.MeasureT-loop
 loop-holds : tie.Need-loop-holds Inv-loop μ-loop
 loop-holds c = search needs
 
-element-copy-out-byte : tie.Need-element-copy-out-byte Inv-loop μ-loop
-element-copy-out-byte c = search needs
+shared-slice-read-byte : tie.Need-shared-slice-read-byte Inv-loop μ-loop
+shared-slice-read-byte c = search needs
 
 byte-requires : tie.Need-byte-requires Inv-loop μ-loop
 byte-requires c κs = search needs
@@ -41,7 +41,7 @@ sum-of-bytes-spec =
     Inv-loop
     μ-loop
     loop-holds
-    element-copy-out-byte
+    shared-slice-read-byte
     byte-requires
     add-sum
     add-k
