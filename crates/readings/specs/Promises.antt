@@ -105,3 +105,7 @@ pub record Darkness : Type 0 where
   pub chart :
       (o a s : ℕ) (xs : List ℕ) → isObserver o ≡ true → lightCheck a s xs ≡ Fine → Colourless o a s xs →
       chartOf o a s xs ≡ ChartAnswer.Given OnChart.Dark
+
+-- at k = 1000 the mesopic reading is the photopic one, refusals and all
+pub record AtThousand : Type 0 where
+  pub mesopic : (a s : ℕ) (xs : List ℕ) → mesopicOf 1000 a s xs ≡ photopicOf a s xs

@@ -1,5 +1,5 @@
-// What is promised of these readings: how mixed light behaves, the order of light, and darkness.
-ghost use Rattle.readings.specs.Promises.{Mixing, Order, Darkness};
+// What is promised of these readings: how mixed light behaves, the order of light, darkness, and the mesopic reading by day.
+ghost use Rattle.readings.specs.Promises.{Mixing, Order, Darkness, AtThousand};
 
 pub fn promise_mixing()
     ensures { λ _. ⌜ Mixing ⌝ }
@@ -11,4 +11,8 @@ pub fn promise_order()
 
 pub fn promise_darkness()
     ensures { λ _. ⌜ Darkness ⌝ }
+{}
+
+pub fn promise_at_thousand()
+    ensures { λ _. ⌜ AtThousand ⌝ }
 {}
