@@ -18,34 +18,32 @@ ghost use Rattle.curves.specs.declared.Curve.the-variants.{XBar, YBar, Z
 ghost use Rattle.curves.specs.Curves.{table, Row, Halves};
 ghost use Rattle.curves.specs.Split.{Reflected, Illuminant, SplitOf, SplitSums, splitSum};
 
-// Under A. Gives the upper part of each product; the lower 21 bits take the row's place.
-pub fn lit_by_a(row: &mut [u64; 471]) -> [u64; 471]
-    requires { ⌜ (length (now row) ≡ 471) × Reflected (now row) ⌝ }
-    ensures { λ r. ⌜ SplitOf (table IlluminantA) (now (row .entry)) r (now (row .exit)) ⌝ }
+// Under A: fills the rows of the upper parts of the products and of their lower 21 bits.
+pub fn lit_by_a(row: &[u64; 471], high: &mut [u64; 471], low: &mut [u64; 471])
+    requires { ⌜ (length (now high) ≡ 471) × (length (now low) ≡ 471) × Reflected (now row) ⌝ }
+    ensures { λ _. ⌜ SplitOf (table IlluminantA) (now (row .entry)) (now (high .exit)) (now (low .exit)) ⌝ }
 {
-    lit_by(&ILLUMINANT_A, row)
+    lit_by(&ILLUMINANT_A, row, high, low)
 }
 
 // Under D65, likewise.
-pub fn lit_by_d65(row: &mut [u64; 471]) -> [u64; 471]
-    requires { ⌜ (length (now row) ≡ 471) × Reflected (now row) ⌝ }
-    ensures { λ r. ⌜ SplitOf (table IlluminantD65) (now (row .entry)) r (now (row .exit)) ⌝ }
+pub fn lit_by_d65(row: &[u64; 471], high: &mut [u64; 471], low: &mut [u64; 471])
+    requires { ⌜ (length (now high) ≡ 471) × (length (now low) ≡ 471) × Reflected (now row) ⌝ }
+    ensures { λ _. ⌜ SplitOf (table IlluminantD65) (now (row .entry)) (now (high .exit)) (now (low .exit)) ⌝ }
 {
-    lit_by(&ILLUMINANT_D65, row)
+    lit_by(&ILLUMINANT_D65, row, high, low)
 }
 
-fn lit_by(illuminant: &[u64; 471], row: &mut [u64; 471]) -> [u64; 471]
-    requires { ⌜ (length (now row) ≡ 471) × Illuminant (now illuminant) × Reflected (now row) ⌝ }
-    ensures { λ r. ⌜ SplitOf (now (illuminant .entry)) (now (row .entry)) r (now (row .exit)) ⌝ }
+fn lit_by(illuminant: &[u64; 471], row: &[u64; 471], high: &mut [u64; 471], low: &mut [u64; 471])
+    requires { ⌜ (length (now high) ≡ 471) × (length (now low) ≡ 471) × Illuminant (now illuminant) × Reflected (now row) ⌝ }
+    ensures { λ _. ⌜ SplitOf (now (illuminant .entry)) (now (row .entry)) (now (high .exit)) (now (low .exit)) ⌝ }
 {
-    let mut high = [0u64; 471];
     for k in 0..471 {
         // Both are below 2^32 as they stand; the remainders say so to the compiler, which then takes several places at a time.
         let product = illuminant[k] % 4294967296 * (row[k] % 4294967296);
         high[k] = product / 2097152;
-        row[k] = product % 2097152;
+        low[k] = product % 2097152;
     }
-    high
 }
 
 // The three sums of high · 2^21 + low by the functions of 1931.

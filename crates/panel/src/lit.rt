@@ -17,8 +17,10 @@ pub fn lit_sums(observer: u32, illuminant: u32, start: u32, step: u32, reflectan
     requires { ⌜ surfaceCheck start step (now reflectances) ≡ Fine ⌝ }
     ensures { λ r. ⌜ PanelSums observer illuminant start step (now (reflectances .entry)) r ⌝ }
 {
-    let mut low = row_of(start, step, reflectances);
-    let high = lit(illuminant, &mut low);
+    let row = row_of(start, step, reflectances);
+    let mut high = [0u64; 471];
+    let mut low = [0u64; 471];
+    lit(illuminant, &row, &mut high, &mut low);
     if observer == 10 {
         sums_10(&high, &low)
     } else {
@@ -27,13 +29,13 @@ pub fn lit_sums(observer: u32, illuminant: u32, start: u32, step: u32, reflectan
 }
 
 // 1 is A, 2 is D65.
-fn lit(illuminant: u32, row: &mut [u64; 471]) -> [u64; 471]
-    requires { ⌜ (length (now row) ≡ 471) × Reflected (now row) ⌝ }
-    ensures { λ r. ⌜ SplitOf (table (illuminantOf illuminant)) (now (row .entry)) r (now (row .exit)) ⌝ }
+fn lit(illuminant: u32, row: &[u64; 471], high: &mut [u64; 471], low: &mut [u64; 471])
+    requires { ⌜ (length (now high) ≡ 471) × (length (now low) ≡ 471) × Reflected (now row) ⌝ }
+    ensures { λ _. ⌜ SplitOf (table (illuminantOf illuminant)) (now (row .entry)) (now (high .exit)) (now (low .exit)) ⌝ }
 {
     if illuminant == 2 {
-        lit_by_d65(row)
+        lit_by_d65(row, high, low);
     } else {
-        lit_by_a(row)
+        lit_by_a(row, high, low);
     }
 }

@@ -1,16 +1,15 @@
 // Reflectances, widened to samples.
+ghost use mathlib.Core.Path.{_≡_};
 ghost use Prim.Native.Nat.{_≤_};
 ghost use lib.ListN.{length};
 ghost use Rattle.panel.specs.Wide.{Widened};
 
-// The reflectances as the first numbers of a longer row.
-pub fn widened(reflectances: &[u16]) -> [u32; 531]
-    requires { ⌜ length (now reflectances) ≤ 531 ⌝ }
-    ensures { λ r. ⌜ Widened (now (reflectances .entry)) r ⌝ }
+// Puts the reflectances to the front of a longer row.
+pub fn widen(reflectances: &[u16], wide: &mut [u32; 531])
+    requires { ⌜ (length (now reflectances) ≤ 531) × (length (now wide) ≡ 531) ⌝ }
+    ensures { λ _. ⌜ Widened (now (reflectances .entry)) (now (wide .exit)) ⌝ }
 {
-    let mut wide = [0u32; 531];
     for k in 0..reflectances.len() {
         wide[k] = reflectances[k] as u32;
     }
-    wide
 }

@@ -1,6 +1,6 @@
 // The three sums of a panel, or its first refusal.
 use crate::lit::lit_sums;
-use crate::reflectances::widened;
+use crate::reflectances::widen;
 use curves::weigh::Sums;
 use grid::Check;
 use grid::Refusal;
@@ -31,7 +31,8 @@ pub fn panel_sums(
     let setting = check_setting(observer, illuminant, start, step, count);
     match setting {
         Check::Fine => {
-            let wide = widened(reflectances);
+            let mut wide = [0u32; 531];
+            widen(reflectances, &mut wide);
             let samples = &wide[..count];
             let limit = check_limit(8, 10000, samples);
             match limit {

@@ -7,7 +7,9 @@ use Rattle.curves.proofs.lit.lit_by_a.Tie as tie
 
 lit-by-requires : tie.Need-lit-by-requires
 unfolding illuminantA
-lit-by-requires c κs = (c .before .before .pre .0, a-small, c .before .before .pre .1)
+lit-by-requires c κs =
+    let given = c .before .before .before .pre in
+    (given .0, given .1, a-small, given .2)
 
 returns : tie.Need-returns
 unfolding table illuminantA

@@ -11,10 +11,10 @@ lit-by-a-requires : tie.Need-lit-by-a-requires
 lit-by-a-requires c κs = search needs
 
 returns : tie.Need-returns
-returns c = rw (c .before .before .if1 .taken) (c .lit-by-d65 .ensures)
+returns c = rw (c .before .before .before .if1 .taken) (c .lit-by-d65 .ensures)
 
 returns-2 : tie.Need-returns-2
-returns-2 c = rw (ne-eqb (c .before .before .before .args .illuminant) 2 (c .before .before .if1 .left)) (c .lit-by-a .ensures)
+returns-2 c = rw (ne-eqb (c .before .before .before .before .args .illuminant) 2 (c .before .before .before .if1 .left)) (c .lit-by-a .ensures)
 
 pub lit-spec : {M : Type 1} → statement M
 lit-spec = tie.close (tie.spec lit-by-d65-requires lit-by-a-requires returns returns-2)

@@ -1,5 +1,5 @@
 -- The setting and the grid are checked first, then the widened reflectances, which are the reflectances; then they are summed.
-use mathlib.Core.Path.{_≡_, sym, _∙_, ap}
+use mathlib.Core.Path.{_≡_, refl, sym, _∙_, ap}
 use Prim.Native.Nat.{_≤_}
 use lib.ListN.{length}
 use borrow.Author.Needs.{needs}
@@ -23,9 +23,9 @@ few c =
     accepted (s .start) (s .step) n (setting-grid (s .observer) (s .illuminant) (s .start) (s .step) n (setting-fine c)) .many
 
 -- and so are the reflectances in this one
-reflectances-fine : (c : tie.After-enum-told2) → reflectancesCheck (c .before .before .before .before .before .before .before .before .before .args .reflectances .now) ≡ Fine
+reflectances-fine : (c : tie.After-enum-told2) → reflectancesCheck (c .before .before .before .before .before .before .before .before .before .before .args .reflectances .now) ≡ Fine
 reflectances-fine c =
-    sym (rw (c .before .before .before .before .widened .ensures .first) at (c .before .before .check-limit .ensures)) ∙ c .enum-told2 .given .1
+    sym (rw (c .before .before .before .before .widen .ensures .first) at (c .before .before .check-limit .ensures)) ∙ c .enum-told2 .given .1
 
 check-setting-requires : tie.Need-check-setting-requires
 check-setting-requires c κs = search needs
@@ -33,14 +33,14 @@ check-setting-requires c κs = search needs
 enum-told : tie.Need-enum-told
 enum-told c = search needs
 
-widened-requires : tie.Need-widened-requires
-widened-requires c κs = few c
+widen-requires : tie.Need-widen-requires
+widen-requires c κs = (few (c .before), refl)
 
 array-share-prefix-wide : tie.Need-array-share-prefix-wide
-array-share-prefix-wide c = rw (c .widened .ensures .long) (few (c .before))
+array-share-prefix-wide c = rw (c .widen .ensures .long) (few (c .before .before))
 
 slice-aggregate-samples : tie.Need-slice-aggregate-samples
-slice-aggregate-samples c = ap length (sym (c .before .widened .ensures .first))
+slice-aggregate-samples c = ap length (sym (c .before .widen .ensures .first))
 
 check-limit-requires : tie.Need-check-limit-requires
 check-limit-requires c κs = search needs
@@ -51,11 +51,11 @@ enum-told-2 c = search needs
 lit-sums-requires : tie.Need-lit-sums-requires
 unfolding surfaceCheck
 lit-sums-requires c κs =
-    let s = c .before .before .before .before .before .before .before .before .before .args in
+    let s = c .before .before .before .before .before .before .before .before .before .before .args in
     let n = length (s .reflectances .now) in
     rw (
-      c .before .before .before .before .widened .ensures .first,
-      setting-grid (s .observer) (s .illuminant) (s .start) (s .step) n (setting-fine (c .before .before .before .before .before)),
+      c .before .before .before .before .widen .ensures .first,
+      setting-grid (s .observer) (s .illuminant) (s .start) (s .step) n (setting-fine (c .before .before .before .before .before .before)),
     )
     (reflectances-fine c)
 
@@ -68,19 +68,19 @@ enum-known-setting c = search needs
 returns : tie.Need-returns
 unfolding SumsOf
 returns c =
-    let s = c .before .before .before .before .before .before .before .before .before .before .args in (
+    let s = c .before .before .before .before .before .before .before .before .before .before .before .args in (
       panel-checked (s .observer) (s .illuminant) (s .start) (s .step) (s .reflectances .now)
-          ∙ rw (setting-fine (c .before .before .before .before .before .before)) (reflectances-fine (c .before)),
-      rw (c .before .before .before .before .before .widened .ensures .first) at (c .lit-sums .ensures),
+          ∙ rw (setting-fine (c .before .before .before .before .before .before .before)) (reflectances-fine (c .before)),
+      rw (c .before .before .before .before .before .widen .ensures .first) at (c .lit-sums .ensures),
     )
 
 returns-2 : tie.Need-returns-2
 unfolding SumsOf
 returns-2 c =
-    let s = c .before .before .before .before .before .before .before .before .before .before .args in
+    let s = c .before .before .before .before .before .before .before .before .before .before .before .args in
     panel-checked (s .observer) (s .illuminant) (s .start) (s .step) (s .reflectances .now)
-    ∙ rw (setting-fine (c .before .before .before .before .before .before))
-    (sym (rw (c .before .before .before .before .before .widened .ensures .first) at (c .before .before .before .check-limit .ensures)) ∙ c .before .limit .given .1)
+    ∙ rw (setting-fine (c .before .before .before .before .before .before .before))
+    (sym (rw (c .before .before .before .before .before .widen .ensures .first) at (c .before .before .before .check-limit .ensures)) ∙ c .before .limit .given .1)
 
 returns-3 : tie.Need-returns-3
 unfolding SumsOf
@@ -95,7 +95,7 @@ panel-sums-spec =
     (tie.spec
     check-setting-requires
     enum-told
-    widened-requires
+    widen-requires
     array-share-prefix-wide
     slice-aggregate-samples
     check-limit-requires

@@ -6,8 +6,8 @@ use native.Mathlib.Omega.{arith}
 use lib.ListN.{length, getD, take}
 use lib.Seq.{ext-getD, getD-take, length-take-le}
 use Rattle.curves.proofs.Filled.{FilledTo, fill-more}
-use Rattle.panel.proofs.reflectances.widened.Statement.{statement}
-use Rattle.panel.proofs.reflectances.widened.Tie as tie
+use Rattle.panel.proofs.reflectances.widen.Statement.{statement}
+use Rattle.panel.proofs.reflectances.widen.Tie as tie
 
 abbrev Inv-loop : tie.InvT-loop
 Inv-loop reflectances wide₀ k₀ k-end wide k = (k ≤ length reflectances) × FilledTo 531 (λ j. getD reflectances j 0) wide k
@@ -16,7 +16,7 @@ abbrev μ-loop : tie.MeasureT-loop
 μ-loop reflectances wide₀ k₀ k-end wide k = length reflectances - k
 
 loop-holds : tie.Need-loop-holds Inv-loop μ-loop
-loop-holds c = (omega arith, record { long = refl; filled = λ q h. absurd (omega arith) })
+loop-holds c = (omega arith, record { long = c .pre .1; filled = λ q h. absurd (omega arith) })
 
 mul-wide : tie.Need-mul-wide Inv-loop μ-loop
 mul-wide c = search needs
@@ -30,8 +30,8 @@ cast-wide c = omega (arith, c .shared-slice-known .given (c .before .before .loo
 mul-wide-2 : tie.Need-mul-wide-2 Inv-loop μ-loop
 mul-wide-2 c = search needs
 
-array-write-wide : tie.Need-array-write-wide Inv-loop μ-loop
-array-write-wide c = omega arith
+element-write-wide : tie.Need-element-write-wide Inv-loop μ-loop
+element-write-wide c = omega arith
 
 add-k : tie.Need-add-k Inv-loop μ-loop
 add-k c = omega arith
@@ -57,8 +57,8 @@ returns c =
           (λ j h. getD-take (length rs) (l .wide) j 0 (omega arith) ∙ l .inv .1 .filled j (omega arith));
     }
 
-pub widened-spec : {M : Type 1} → statement M
-widened-spec =
+pub widen-spec : {M : Type 1} → statement M
+widen-spec =
     tie.close
     (tie.spec
     Inv-loop
@@ -68,7 +68,7 @@ widened-spec =
     shared-slice-read-wide
     cast-wide
     mul-wide-2
-    array-write-wide
+    element-write-wide
     add-k
     loop-less
     loop-again
