@@ -11,7 +11,7 @@ mod work;
 use std::env;
 use std::process::ExitCode;
 use std::time::Instant;
-use work::{Library, Task, Work, FIGURES, ITEMS, OURS, READING, REPORT, STRAIGHT, TASKS};
+use work::{Library, Task, Work, ITEMS, OURS, REPORT, STRAIGHT, TASKS};
 
 /// Each time is the best of so many rounds.
 const ROUNDS: usize = 25;
@@ -99,19 +99,22 @@ fn print_speed() {
 }
 
 fn print_growth() {
-    println!("\nGrowth of ours: ns for one and for each sample\n");
-    println!("step  start  last    n   seven figures  a sample   reading  a sample");
+    println!("\nGrowth of ours: ns for one\n");
+    print!("step  start  last    n");
+    for task in &TASKS {
+        print!("{:>10}", task.name);
+    }
+    println!();
     for step in [1, 2, 5, 10] {
         for (start, last) in [(380, 780), (360, 830), (300, 830)] {
             let count = ((last - start) / step + 1) as usize;
             let work = Work::new(start, step, count);
-            let [figures, reading] = best([&mut || (FIGURES.round)(&OURS, &work), &mut || {
-                (READING.round)(&OURS, &work)
-            }]);
-            let [figure, read] = [figures, reading].map(|ns| ns / count as f64);
-            println!(
-                "{step:4}{start:7}{last:6}{count:5}{figures:16.0}{figure:10.1}{reading:10.0}{read:10.2}"
-            );
+            print!("{step:4}{start:7}{last:6}{count:5}");
+            for task in &TASKS {
+                let [ours] = best([&mut || (task.round)(&OURS, &work)]);
+                print!("{ours:10.0}");
+            }
+            println!();
         }
     }
 }

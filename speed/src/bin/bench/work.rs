@@ -84,7 +84,7 @@ pub struct Task {
 
 pub static TASKS: [Task; 5] = [READING, WRITING, FIGURES, REPORT, PANEL];
 
-pub const READING: Task = Task {
+const READING: Task = Task {
     name: "reading",
     says: "reading a record",
     target: Some(1.00),
@@ -113,7 +113,7 @@ const WRITING: Task = Task {
     dot: None,
 };
 
-pub const FIGURES: Task = Task {
+const FIGURES: Task = Task {
     name: "figures",
     says: "seven figures of a spectrum",
     target: Some(0.70),
