@@ -1,4 +1,4 @@
--- What an accepted light's row is: 471 places, small enough to be weighed, and W when it is.
+-- What an accepted light's row is: small enough to be weighed, and W when it is.
 use mathlib.Core.Path.{_≡_}
 use mathlib.Core.List.{List}
 use Prim.Native.Nat.{ℕ, _+_, _*_}
@@ -16,10 +16,6 @@ use Rattle.grid.specs.Check.{lightCheck}
 use Rattle.spectrum.specs.Line.{T, listed, rowOf, W}
 use Rattle.spectrum.proofs.Measured.{T-bound}
 use Rattle.spectrum.proofs.Lay.{length-listed, getD-listed}
-
-pub row-long : (a s : ℕ) (xs : List ℕ) → length (rowOf a s xs) ≡ 471
-unfolding rowOf
-row-long a s xs = length-listed 471 (λ k. T a s xs (360 + k))
 
 -- no place of the row is above 10 times the samples' limit
 pub row-within : (a s limit : ℕ) (xs : List ℕ) → OnGrid a s (length xs) → Within limit xs → Within (10 * limit) (rowOf a s xs)
