@@ -1,10 +1,9 @@
 -- The chart's point is that of the coordinates.
 use mathlib.Core.Path.{_≡_, _∙_, sym}
-use Prim.Native.Nat.{_+_, _^_, _<_}
 use Rattle.grid.specs.declared.Check.the-variants.{Fine}
-use Rattle.exact.specs.Value.{short}
 use Rattle.readings.specs.Readings.{colourCheck, chartOf}
-use Rattle.readings.proofs.Small.{colour-fine, colour-small}
+use Rattle.readings.proofs.Small.{colour-fine}
+use Rattle.readings.proofs.LightSums.{total-small}
 use borrow.Author.Needs.{needs}
 use Rattle.readings.proofs.colour.chart.Statement.{statement}
 use Rattle.readings.proofs.colour.chart.Tie as tie
@@ -13,11 +12,6 @@ use Rattle.readings.proofs.colour.chart.Tie as tie
 fine : (c : tie.After-enum-told) → colourCheck (c .before .before .before .before .args .observer) (c .before .before .before .before .args .start) (c .before .before .before .before .args .step) (c .before .before .before .before .args .samples .now) ≡ Fine
 fine c = sym (c .before .before .check-colour .ensures) ∙ c .enum-told .given .1
 
-small : (c : tie.After-light-sums) → short (c .light-sums .result .x) + short (c .light-sums .result .y) + short (c .light-sums .result .z) < 2 ^ 96
-small c =
-    let sums = c .light-sums .ensures in
-    rw (sums .x, sums .y, sums .z) (colour-small (c .before .before .before .before .before .args .start) (c .before .before .before .before .before .args .step) (c .before .before .before .before .before .args .samples .now) (colour-fine (c .before .before .before .before .before .args .observer) (c .before .before .before .before .before .args .start) (c .before .before .before .before .before .args .step) (c .before .before .before .before .before .args .samples .now) (fine (c .before))) (c .before .before .before .before .before .args .observer))
-
 check-colour-requires : tie.Need-check-colour-requires
 check-colour-requires c κs = search needs
 
@@ -25,10 +19,14 @@ enum-told : tie.Need-enum-told
 enum-told c = search needs
 
 light-sums-requires : tie.Need-light-sums-requires
-light-sums-requires c κs = colour-fine (c .before .before .before .before .args .observer) (c .before .before .before .before .args .start) (c .before .before .before .before .args .step) (c .before .before .before .before .args .samples .now) (fine c)
+light-sums-requires c κs =
+    let t = c .before .before .before .before .args in
+    colour-fine (t .observer) (t .start) (t .step) (t .samples .now) (fine c)
 
 xy-from-requires : tie.Need-xy-from-requires
-xy-from-requires c κs = small c
+xy-from-requires c κs =
+    let t = c .before .before .before .before .before .args in
+    total-small (t .observer) (t .start) (t .step) (t .samples .now) (c .light-sums .result) (c .light-sums .ensures) (fine (c .before))
 
 on-chart-requires : tie.Need-on-chart-requires
 on-chart-requires c κs = search needs
