@@ -1,35 +1,30 @@
 // An input from its draws.
-ghost use Prim.Native.Nat.{_<_, _≤_};
+ghost use mathlib.Core.Path.{_≡_};
+ghost use Prim.Native.Nat.{_*_, _%_, _<_, _≤_};
+ghost use Rattle.many.specs.Generator.{stepFrom, startFrom, observerFrom, illuminantFrom};
 
 pub fn draw(s: u64) -> u64
     requires { ⌜ s < 2147483647 ⌝ }
-    ensures { λ r. ⌜ r < 2147483647 ⌝ }
+    ensures { λ r. ⌜ (r ≡ s * 48271 % 2147483647) × (r < 2147483647) ⌝ }
 {
     s * 48271 % 2147483647
 }
 
-pub fn step_from(d: u64) -> u32 {
-    let i = d % 16;
-    match i {
-        0 | 4 | 8 | 12 => 1,
-        1 | 5 | 9 | 13 => 2,
-        2 | 6 | 10 => 5,
-        3 | 7 | 11 => 10,
-        14 => 3,
-        _ => 0,
-    }
+pub fn step_from(d: u64) -> u32
+    ensures { λ r. ⌜ r ≡ stepFrom d ⌝ }
+{
+    let steps: [u32; 16] = [1, 2, 5, 10, 1, 2, 5, 10, 1, 2, 5, 10, 1, 2, 3, 0];
+    steps[(d % 16) as usize]
 }
 
-pub fn start_from(d: u64) -> u32 {
-    if d % 13 != 0 {
-        return 300 + (d % 81) as u32;
-    }
-    let i = d / 13 % 4;
-    match i {
-        0 => 299,
-        1 => 381,
-        2 => 0,
-        _ => 4294967295,
+pub fn start_from(d: u64) -> u32
+    ensures { λ r. ⌜ r ≡ startFrom d ⌝ }
+{
+    if d % 13 == 0 {
+        let starts: [u32; 4] = [299, 381, 0, 4294967295];
+        starts[(d / 13 % 4) as usize]
+    } else {
+        300 + (d % 81) as u32
     }
 }
 
@@ -67,27 +62,23 @@ fn fitting_count(last: u64, start: u64, step: u64) -> usize
     if steps < 532 { steps as usize + 1 } else { 532 }
 }
 
-pub fn observer_from(d: u64) -> u32 {
-    let i = d % 8;
-    match i {
-        0 | 2 | 4 => 2,
-        1 | 3 | 5 => 10,
-        6 => 3,
-        _ => 0,
-    }
+pub fn observer_from(d: u64) -> u32
+    ensures { λ r. ⌜ r ≡ observerFrom d ⌝ }
+{
+    let observers: [u32; 8] = [2, 10, 2, 10, 2, 10, 3, 0];
+    observers[(d % 8) as usize]
 }
 
-pub fn illuminant_from(d: u64) -> u32 {
-    let i = d % 8;
-    match i {
-        0 | 2 | 4 => 1,
-        1 | 3 | 5 => 2,
-        6 => 0,
-        _ => 3,
-    }
+pub fn illuminant_from(d: u64) -> u32
+    ensures { λ r. ⌜ r ≡ illuminantFrom d ⌝ }
+{
+    let illuminants: [u32; 8] = [1, 2, 1, 2, 1, 2, 0, 3];
+    illuminants[(d % 8) as usize]
 }
 
-pub fn setting_from(d: u64) -> u32 {
+pub fn setting_from(d: u64) -> u32
+    ensures { λ r. ⌜ r ≡ d % 1100 ⌝ }
+{
     (d % 1100) as u32
 }
 

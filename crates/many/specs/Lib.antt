@@ -1,0 +1,2 @@
+-- Definitions of the program `many`.
+pub mod Generator
