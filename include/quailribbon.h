@@ -4,10 +4,13 @@
  * above 1,000,000, whose last wavelength is from 780 to 830 nm. A panel has reflectances in 1/10000, none above 10,000,
  * on such a grid.
  *
- * Every call is answered, whatever it is given: `number` 0 means that the values are given; else it is the refusal's
- * number (below), `place` is that of the first faulty sample for 4 and 8, counted from 0, and everything else is 0. A
- * call that succeeds writes exactly what it reports into the lent memory and nothing behind it; one that is refused
- * leaves it as it was. A lent row may be empty, but its pointer must not be null.
+ * Every call is answered, whatever it is given: `number` 0 means that the values are given, but for those that have a
+ * number of their own beside them (`xy_number`); else it is the refusal's number (below), `place` is that of the first
+ * faulty sample for 4 and 8, counted from 0, and everything else is 0.
+ *
+ * A call that succeeds writes exactly what it reports into the lent memory and nothing behind it; one that is refused
+ * leaves it as it was. What is lent for writing may not overlap what is lent for reading in the same call. A row of
+ * length 0 may have any pointer, a null one too: it is an empty row.
  */
 #ifndef QUAILRIBBON_H
 #define QUAILRIBBON_H
@@ -46,10 +49,10 @@ enum {
 typedef struct { uint32_t number, place, value; } qr_reading;
 typedef struct { uint32_t number, place, x, y, z; } qr_xyz_answer;
 typedef struct { uint32_t number, place, x, y; } qr_xy_answer;
-typedef struct { uint32_t number, place, dark; double x, y; } qr_chart_answer;
+typedef struct { uint32_t number, place; double x, y; } qr_chart_answer;
 typedef struct { uint32_t number, place, start, step, count; } qr_record_answer;
 typedef struct { uint32_t number, place, length; } qr_written;
-typedef struct { uint32_t number, place, photopic, scotopic, X, Y, Z, dark, x, y; } qr_figures_answer;
+typedef struct { uint32_t number, place, photopic, scotopic, X, Y, Z, xy_number, x, y; } qr_figures_answer;
 
 /* Illuminances in millilux: photopic, scotopic, 10° photopic, and mesopic at k thousandths. */
 qr_reading qr_photopic(uint32_t start, uint32_t step, const uint32_t *samples, size_t count);
@@ -57,7 +60,7 @@ qr_reading qr_scotopic(uint32_t start, uint32_t step, const uint32_t *samples, s
 qr_reading qr_photopic_10(uint32_t start, uint32_t step, const uint32_t *samples, size_t count);
 qr_reading qr_mesopic(uint32_t k, uint32_t start, uint32_t step, const uint32_t *samples, size_t count);
 
-/* X, Y, Z in millilux; x, y in hundred-thousandths; the chart's point, or dark. Observer 2 or 10. */
+/* X, Y, Z in millilux; x, y in hundred-thousandths; the chart's point, DARK as x, y are. Observer 2 or 10. */
 qr_xyz_answer qr_xyz(uint32_t observer, uint32_t start, uint32_t step, const uint32_t *samples, size_t count);
 qr_xy_answer qr_xy(uint32_t observer, uint32_t start, uint32_t step, const uint32_t *samples, size_t count);
 qr_chart_answer qr_chart(uint32_t observer, uint32_t start, uint32_t step, const uint32_t *samples, size_t count);
@@ -67,7 +70,7 @@ qr_xyz_answer qr_panel_xyz(uint32_t observer, uint32_t illuminant, uint32_t star
 qr_xy_answer qr_panel_xy(uint32_t observer, uint32_t illuminant, uint32_t start, uint32_t step, const uint16_t *reflectances, size_t count);
 qr_chart_answer qr_panel_chart(uint32_t observer, uint32_t illuminant, uint32_t start, uint32_t step, const uint16_t *reflectances, size_t count);
 
-/* The report's figures of a light in one call, at observer 2; dark is 1 where x and y are not given. */
+/* The report's figures of a light in one call, at observer 2; xy_number is that of x and y: 0, or 9 where they are dark. */
 qr_figures_answer qr_figures(uint32_t start, uint32_t step, const uint32_t *samples, size_t count);
 
 /* A packed record: read into the lent row of `room` samples, written into the lent `room` bytes. */

@@ -68,10 +68,10 @@ def _flat(name, words, floats=()):
 _Reading = _flat("_Reading", ("value",))
 _Xyz = _flat("_Xyz", ("x", "y", "z"))
 _Xy = _flat("_Xy", ("x", "y"))
-_Chart = _flat("_Chart", ("dark",), ("x", "y"))
+_Chart = _flat("_Chart", (), ("x", "y"))
 _Record = _flat("_Record", ("start", "step", "count"))
 _Written = _flat("_Written", ("length",))
-_Figures = _flat("_Figures", ("photopic", "scotopic", "X", "Y", "Z", "dark", "x", "y"))
+_Figures = _flat("_Figures", ("photopic", "scotopic", "X", "Y", "Z", "xy_number", "x", "y"))
 
 
 def _load():
@@ -171,13 +171,10 @@ def xy(observer, start, step, samples):
     return Xy(answer.x, answer.y)
 
 
-def _point(answer):
-    return None if answer.dark else ChartPoint(answer.x, answer.y)
-
-
 def chart(observer, start, step, samples):
-    """The chart's point, or None where the light is dark."""
-    return _point(_light(_chart, observer, start, step, samples=samples))
+    """The chart's point; refused as DARK where there is no light."""
+    answer = _light(_chart, observer, start, step, samples=samples)
+    return ChartPoint(answer.x, answer.y)
 
 
 def panel_xyz(observer, illuminant, start, step, reflectances):
@@ -193,14 +190,15 @@ def panel_xy(observer, illuminant, start, step, reflectances):
 
 
 def panel_chart(observer, illuminant, start, step, reflectances):
-    """A panel's point on the chart, or None where it is dark."""
-    return _point(_panel(_panel_chart, observer, illuminant, start, step, reflectances=reflectances))
+    """A panel's point on the chart; refused as DARK where it reflects nothing."""
+    answer = _panel(_panel_chart, observer, illuminant, start, step, reflectances=reflectances)
+    return ChartPoint(answer.x, answer.y)
 
 
 def figures(start, step, samples):
     """The report's figures at observer 2; `xy` is None where the light is dark."""
     answer = _light(_figures, start, step, samples=samples)
-    colour = None if answer.dark else Xy(answer.x, answer.y)
+    colour = None if answer.xy_number else Xy(answer.x, answer.y)
     return Figures(answer.photopic, answer.scotopic, answer.X, answer.Y, answer.Z, colour)
 
 

@@ -27,10 +27,10 @@ static void lights(void) {
     qr_xy_answer xy = qr_xy(2, 380, 1, samples, 401);
     expect("qr_xy", xy.number == 0 && xy.x == 14396 && xy.y == 2970);
     qr_chart_answer chart = qr_chart(2, 380, 1, samples, 401);
-    expect("qr_chart", chart.number == 0 && chart.dark == 0 && chart.x == 14396 / 100000.0 && chart.y == 2970 / 100000.0);
+    expect("qr_chart", chart.number == 0 && chart.place == 0 && chart.x == 14396 / 100000.0 && chart.y == 2970 / 100000.0);
     qr_figures_answer f = qr_figures(380, 1, samples, 401);
     expect("qr_figures", f.number == 0 && f.photopic == 40980 && f.scotopic == 963900 && f.X == 198616 && f.Y == 40980 &&
-                             f.Z == 1140064 && f.dark == 0 && f.x == 14396 && f.y == 2970);
+                             f.Z == 1140064 && f.xy_number == 0 && f.x == 14396 && f.y == 2970);
 }
 
 static void panels(void) {
@@ -39,7 +39,7 @@ static void panels(void) {
     qr_xy_answer xy = qr_panel_xy(2, 2, 360, 1, white, 471);
     expect("qr_panel_xy", xy.number == 0 && xy.x == 31273 && xy.y == 32902);
     qr_chart_answer chart = qr_panel_chart(2, 2, 360, 1, white, 471);
-    expect("qr_panel_chart", chart.number == 0 && chart.dark == 0 && chart.x == 31273 / 100000.0 && chart.y == 32902 / 100000.0);
+    expect("qr_panel_chart", chart.number == 0 && chart.place == 0 && chart.x == 31273 / 100000.0 && chart.y == 32902 / 100000.0);
 }
 
 static void records(void) {
@@ -71,8 +71,9 @@ static void refusals(void) {
     samples[80] = 0;
     expect("DARK", qr_xy(2, 380, 1, samples, 401).number == QR_DARK);
     qr_chart_answer dark = qr_chart(2, 380, 1, samples, 401);
-    expect("a dark chart", dark.number == 0 && dark.dark == 1 && dark.x == 0.0 && dark.y == 0.0);
-    expect("dark figures", qr_figures(380, 1, samples, 401).dark == 1);
+    expect("a dark chart", dark.number == QR_DARK && dark.place == 0 && dark.x == 0.0 && dark.y == 0.0);
+    qr_figures_answer unlit = qr_figures(380, 1, samples, 401);
+    expect("dark figures", unlit.number == 0 && unlit.xy_number == QR_DARK && unlit.x == 0 && unlit.y == 0);
     expect("ILLUMINANT", qr_panel_xyz(2, 3, 360, 1, white, 471).number == QR_ILLUMINANT);
     white[470] = 10001;
     qr_xy_answer panel = qr_panel_xy(2, 1, 360, 1, white, 471);
@@ -82,6 +83,21 @@ static void refusals(void) {
     expect("ROOM of a report", qr_report(record, 0, text, sizeof text).number == QR_ROOM);
 }
 
+/* A null pointer with length 0 is an empty row, in every place where a row is lent. */
+static void empty_rows(void) {
+    uint8_t record[QR_LONGEST_RECORD];
+    expect("STEP before an empty row", qr_photopic(380, 3, NULL, 0).number == QR_STEP);
+    expect("an empty light", qr_photopic(380, 1, NULL, 0).number == QR_COUNT);
+    expect("empty figures", qr_figures(380, 1, NULL, 0).number == QR_COUNT);
+    expect("an empty panel", qr_panel_xyz(2, 1, 380, 1, NULL, 0).number == QR_COUNT);
+    expect("an empty record", qr_read_record(NULL, 0, NULL, 0).number == QR_LENGTH);
+    expect("an empty light to be written", qr_write_record(380, 1, NULL, 0, record, sizeof record).number == QR_COUNT);
+    expect("no room for a record", qr_write_record(380, 1, samples, 401, NULL, 0).number == QR_ROOM);
+    qr_written written = qr_write_record(380, 1, samples, 401, record, sizeof record);
+    expect("no room for the samples", qr_read_record(record, written.length, NULL, 0).number == QR_ROOM);
+    expect("no room for a report", qr_report(NULL, 0, NULL, 0).number == QR_ROOM);
+}
+
 int main(void) {
     samples[80] = 1000000;
     for (int i = 0; i < 471; i++) white[i] = 10000;
@@ -89,6 +105,7 @@ int main(void) {
     panels();
     records();
     refusals();
+    empty_rows();
     printf("boundary: %u calls, %u not as expected\n", calls, wrong);
     return wrong != 0;
 }

@@ -25,7 +25,8 @@ class Lights(unittest.TestCase):
         self.assertEqual(quailribbon.xyz(2, 380, 1, example()), (198616, 40980, 1140064))
         self.assertEqual(quailribbon.xy(10, 380, 1, example()), (13892, 5892))
         self.assertEqual(quailribbon.chart(2, 380, 1, example()), (0.14396, 0.0297))
-        self.assertIsNone(quailribbon.chart(2, 380, 1, [0] * 401))
+        with self.assertRaisesRegex(quailribbon.Refused, "refused 9 "):
+            quailribbon.chart(2, 380, 1, [0] * 401)
 
     def test_figures(self):
         self.assertEqual(quailribbon.figures(380, 1, example()), (40980, 963900, 198616, 40980, 1140064, (14396, 2970)))
@@ -38,7 +39,8 @@ class Panels(unittest.TestCase):
         self.assertEqual(quailribbon.panel_xyz(2, 1, 360, 1, white), (109850, 100000, 35585))
         self.assertEqual(quailribbon.panel_xy(2, 2, 360, 1, white), (31273, 32902))
         self.assertEqual(quailribbon.panel_chart(2, 2, 360, 1, white), (0.31273, 0.32902))
-        self.assertIsNone(quailribbon.panel_chart(2, 2, 360, 1, [0] * 471))
+        with self.assertRaisesRegex(quailribbon.Refused, "refused 9 "):
+            quailribbon.panel_chart(2, 2, 360, 1, [0] * 471)
 
 
 class Records(unittest.TestCase):

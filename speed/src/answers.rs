@@ -1,7 +1,7 @@
 //! The answers of the C boundary, laid out as in quailribbon.h.
 //!
-//! Number 0 means that the value is given; else it is the refusal's number, and what a refusal
-//! doesn't give is 0.
+//! Number 0 means that the values are given, but for those that have a number of their own beside
+//! them; else it is the refusal's number, and what a refusal doesn't give is 0.
 
 /// What every answer has.
 pub trait Answer: PartialEq + std::fmt::Debug {
@@ -40,7 +40,6 @@ pub struct XyAnswer {
 pub struct ChartAnswer {
     pub number: u32,
     pub place: u32,
-    pub dark: u32,
     pub x: f64,
     pub y: f64,
 }
@@ -48,7 +47,7 @@ pub struct ChartAnswer {
 /// Floats are compared by bits, so that 0.0 isn't -0.0.
 impl PartialEq for ChartAnswer {
     fn eq(&self, other: &Self) -> bool {
-        let whole = |answer: &Self| (answer.number, answer.place, answer.dark);
+        let whole = |answer: &Self| (answer.number, answer.place);
         let bits = |answer: &Self| (answer.x.to_bits(), answer.y.to_bits());
         whole(self) == whole(other) && bits(self) == bits(other)
     }
@@ -84,7 +83,7 @@ pub struct FiguresAnswer {
     pub X: u32,
     pub Y: u32,
     pub Z: u32,
-    pub dark: u32,
+    pub xy_number: u32,
     pub x: u32,
     pub y: u32,
 }

@@ -31,7 +31,7 @@ fn p1_all_zero() {
     assert_eq!((answer.number, answer.x, answer.y, answer.z), (0, 0, 0, 0));
     assert_eq!(xy(2, 380, 1, &dark).number, 9);
     let answer = chart(2, 380, 1, &dark);
-    assert_eq!((answer.number, answer.dark), (0, 1));
+    assert_eq!((answer.number, answer.x, answer.y), (9, 0.0, 0.0));
 }
 
 #[test]

@@ -12,7 +12,8 @@ use Rattle.mixing.proofs.Mixture.{linear-plus, linear-times}
 use Rattle.mixing.proofs.Illuminance.{illuminance}
 use Rattle.mixing.proofs.Coordinate.{between}
 use Rattle.answers.specs.Worked.{readingFrom, xyzFrom, xyFrom}
-use Rattle.answers.specs.Said.{Said, value, saidReading, saidXyz, saidXy}
+use Rattle.grid.specs.Said.{Said, value}
+use Rattle.answers.specs.Said.{saidReading, saidXyz, saidXy}
 use Rattle.answers.proofs.Values.{reading-values, xyz-values, xy-lit, xy-dark, xy-given}
 
 -- each of these sums is linear

@@ -9,6 +9,8 @@ use Rattle.mixing.specs.Nearest.{nearest}
 use Rattle.answers.specs.declared.Reading.{Reading}
 use Rattle.answers.specs.declared.XyzAnswer.{XyzAnswer}
 use Rattle.answers.specs.declared.XyAnswer.{XyAnswer}
+use Rattle.answers.specs.declared.Xy.{Xy}
+use Rattle.answers.specs.declared.ChartPoint.{ChartPoint}
 use Rattle.answers.specs.declared.OnChart.{OnChart}
 
 -- a rounded reading fits where it is not above 4,294,967,295
@@ -36,7 +38,11 @@ xyFrom x y z =
 unfoldable pub coordinateFloat : ℕ → Float
 coordinateFloat n = div binary64 (ofInt binary64 (pos n)) (ofInt binary64 (pos 100000))
 
+-- a point of two 64-bit floats
+abbrev pub chartPoint : Xy → ChartPoint
+chartPoint v = record { x = coordinateFloat (v .x); y = coordinateFloat (v .y) }
+
 -- a point where x and y are given, else dark
 unfoldable pub onChart : XyAnswer → OnChart
-onChart (XyAnswer.Value p) = OnChart.Point (record { x = coordinateFloat (p .x); y = coordinateFloat (p .y) })
+onChart (XyAnswer.Value v) = OnChart.Point (chartPoint v)
 onChart (XyAnswer.Refused r) = OnChart.Dark

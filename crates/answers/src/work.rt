@@ -16,7 +16,7 @@ ghost use mathlib.Core.Path.{_≡_};
 ghost use Prim.Native.Nat.{_+_, _*_, _^_, _≤_, _<_};
 ghost use Rattle.mixing.specs.Nearest.{nearest as nearestOf};
 ghost use Rattle.exact.specs.Value.{short};
-ghost use Rattle.answers.specs.Worked.{readingFrom, xyzFrom, xyFrom, onChart, coordinateFloat};
+ghost use Rattle.answers.specs.Worked.{readingFrom, xyzFrom, xyFrom, onChart, chartPoint, coordinateFloat};
 
 // The reading n · f / d.
 pub fn reading_from(n: Short, f: u32, d: Short) -> Reading
@@ -94,11 +94,17 @@ pub fn on_chart(xy: XyAnswer) -> OnChart
     ensures { λ r. ⌜ r ≡ onChart xy ⌝ }
 {
     match xy {
-        XyAnswer::Value(p) => OnChart::Point(ChartPoint {
-            x: coordinate_float(p.x),
-            y: coordinate_float(p.y),
-        }),
+        XyAnswer::Value(v) => OnChart::Point(chart_point(v)),
         XyAnswer::Refused(_) => OnChart::Dark,
+    }
+}
+
+fn chart_point(xy: Xy) -> ChartPoint
+    ensures { λ r. ⌜ r ≡ chartPoint xy ⌝ }
+{
+    ChartPoint {
+        x: coordinate_float(xy.x),
+        y: coordinate_float(xy.y),
     }
 }
 

@@ -5,7 +5,7 @@ use mathlib.Core.List.{List, [], _∷_}
 use Prim.Native.Nat.{ℕ}
 use lib.Dec.{T, eqb, eqb→eq}
 use lib.Ieee.{Float}
-use Rattle.answers.specs.Said.{Said}
+use Rattle.grid.specs.Said.{Said}
 use Rattle.grid.specs.Check.{gridCheck, limitCheck}
 use Rattle.mixing.specs.Nearest.{nearest}
 use Rattle.mixing.specs.Sum.{total, weighted}

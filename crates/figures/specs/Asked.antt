@@ -1,7 +1,8 @@
 -- What can be asked of the library, and what is then said.
 use mathlib.Core.List.{List}
 use Prim.Native.Nat.{ℕ}
-use Rattle.answers.specs.Said.{Said, saidReading, saidXyz, saidXy}
+use Rattle.grid.specs.Said.{Said}
+use Rattle.answers.specs.Said.{saidReading, saidXyz, saidXy}
 use Rattle.panel.specs.Panel.{panelXyzOf, panelXyOf}
 use Rattle.readings.specs.Readings.{photopicOf, scotopicOf, photopic10Of, mesopicOf, xyzOf, xyOf}
 

@@ -3,7 +3,7 @@ use mathlib.Core.List.{List, [], _∷_, _++_}
 use Prim.Native.Nat.{ℕ, _-_}
 use lib.ListN.{replicate}
 use Rattle.mixing.specs.Mixture.{mix}
-use Rattle.answers.specs.Said.{Said, given, refusedWith}
+use Rattle.grid.specs.Said.{Said, given, refusedWith}
 use Rattle.grid.specs.Check.{refusal}
 use Rattle.figures.specs.Asked.{Asked, photopic, scotopic, photopic10, mesopic, xyz, xy, panelXyz, panelXy}
 

@@ -9,7 +9,7 @@ use Rattle.curves.specs.declared.Curve.the-variants.{YBar}
 use Rattle.curves.specs.Tables.{zBar}
 use Rattle.curves.specs.Curves.{weightOf, entryOf}
 use Rattle.spectrum.specs.Line.{T}
-use Rattle.answers.specs.Said.{value}
+use Rattle.grid.specs.Said.{value}
 use Rattle.figures.specs.Asked.{Asked, answerOf, photopic, xyz, xy}
 use Rattle.figures.specs.Rows.{lone, at460}
 

@@ -1,5 +1,4 @@
 -- Laws of the checks.
 pub mod Limit
 pub mod Accepted
-pub mod Place
 pub mod Light

@@ -1,7 +1,7 @@
--- What is known of a light that is accepted, and of the place that is named where it is not.
+-- What is known of a light that is accepted.
 use mathlib.Core.Path.{_≡_, refl}
 use mathlib.Core.List.{List}
-use Prim.Native.Nat.{ℕ, _≤_}
+use Prim.Native.Nat.{ℕ}
 use native.Mathlib.Omega.{arith}
 use lib.ListN.{length}
 use Rattle.grid.specs.declared.Check.{Check}
@@ -9,7 +9,6 @@ use Rattle.grid.specs.declared.Check.the-variants.{Fine, Refused}
 use Rattle.grid.specs.Check.{gridCheck, samplesCheck, lightCheck, unless, Within}
 use Rattle.grid.proofs.Limit.{fine-within}
 use Rattle.grid.proofs.Accepted.{OnGrid, accepted}
-use Rattle.grid.proofs.Place.{placeOf, row-place}
 
 -- where a check is followed by another and all is fine, both are
 pub both-fine : (c d : Check) → unless c Refused d ≡ Fine → (c ≡ Fine) × (d ≡ Fine)
@@ -30,8 +29,3 @@ module _ (a s : ℕ) (xs : List ℕ) (fine : lightCheck a s xs ≡ Fine) where
 
   pub on-grid : OnGrid a s (length xs)
   on-grid = accepted a s (length xs) grid-fine
-
--- a refusal's place fits a row that the grid allows
-pub light-place : (a s : ℕ) (xs : List ℕ) → placeOf (lightCheck a s xs) ≤ 531
-unfolding lightCheck
-light-place a s xs = row-place 4 1000000 a s xs

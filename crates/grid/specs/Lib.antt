@@ -1,2 +1,3 @@
 -- Definitions of the crate `grid`.
 pub mod Check
+pub mod Said

@@ -1,12 +1,14 @@
 // Refusals, and the checks that every spectrum, panel and record shares: step, start, count, observer, and the limit of a sample.
 ghost use mathlib.Core.Path.{_≡_};
 ghost use mathlib.Core.Bool.{true};
+ghost use Prim.Native.Nat.{_≤_};
+ghost use lib.ListN.{length};
 ghost use Rattle.grid.specs.Check.{gridCheck, isStep, isStart, isCount, isObserver, refusal, limitCheck, samplesCheck, lightCheck, Within};
 
 // A refusal's number, and the place of the first faulty sample for 4 and 8 (else 0).
 pub struct Refusal {
     pub number: u32,
-    pub place: usize,
+    pub place: u32,
 }
 
 // What a check finds.
@@ -97,8 +99,9 @@ pub fn check_light(start: u32, step: u32, samples: &[u32]) -> Check
     }
 }
 
-// SAMPLE at the first sample above 1,000,000.
+// SAMPLE at the first sample above 1,000,000, in a row that is no longer than a grid allows.
 pub fn check_samples(samples: &[u32]) -> Check
+    requires { ⌜ length (now samples) ≤ 531 ⌝ }
     ensures { λ r. ⌜ r ≡ samplesCheck (now (samples .entry)) ⌝ }
 {
     check_limit(4, 1000000, samples)
@@ -106,6 +109,7 @@ pub fn check_samples(samples: &[u32]) -> Check
 
 // The refusal with this number at the first sample above the limit.
 pub fn check_limit(number: u32, limit: u32, samples: &[u32]) -> Check
+    requires { ⌜ length (now samples) ≤ 531 ⌝ }
     ensures { λ r. ⌜ r ≡ limitCheck number limit 0 (now (samples .entry)) ⌝ }
 {
     if no_fault(limit, samples) {
@@ -129,11 +133,15 @@ fn no_fault(limit: u32, samples: &[u32]) -> bool
 
 // The place is looked for only where there is a fault.
 fn first_fault(number: u32, limit: u32, samples: &[u32]) -> Check
+    requires { ⌜ length (now samples) ≤ 531 ⌝ }
     ensures { λ r. ⌜ r ≡ limitCheck number limit 0 (now (samples .entry)) ⌝ }
 {
     for k in 0..samples.len() {
         if limit < samples[k] {
-            return Check::Refused(Refusal { number, place: k });
+            return Check::Refused(Refusal {
+                number,
+                place: k as u32,
+            });
         }
     }
     Check::Fine

@@ -19,7 +19,7 @@ pub fn record(start: u32, step: u32, samples: &[u32], d: u64)
     let mut bytes = [0u8; 1331];
     let answer = record::write_record(start, step, samples, &mut bytes);
     match answer {
-        RecordWritten::Written(length) => written(length, &mut bytes, draw(e)),
+        RecordWritten::Written(length) => written(length as usize, &mut bytes, draw(e)),
         RecordWritten::Refused(refusal) => refused(refusal),
     }
 }
@@ -95,7 +95,12 @@ fn read(bytes: &[u8], length: usize, room: usize)
     let mut row = [0u32; 531];
     let answer = record::read_record(&bytes[..length], &mut row[..room]);
     match answer {
-        RecordRead::Read(header) => spectrum(header.start, header.step, header.count, &row),
+        RecordRead::Read(header) => spectrum(
+            header.start,
+            header.step,
+            header.count as usize,
+            &row,
+        ),
         RecordRead::Refused(refusal) => refused(refusal),
     }
 }

@@ -13,7 +13,8 @@ use Rattle.readings.specs.declared.report.ReportFigures.{ReportFigures}
 use Rattle.readings.specs.declared.report.FiguresAnswer.{FiguresAnswer}
 use Rattle.page.specs.Report.{photopic, scotopic, bigX, bigY, bigZ, dash, at, refused, decimal, coordinate, line, numbered, smallX, smallY, colourLines, figureLines, textOf, answerOf, reportOf}
 use Rattle.page.specs.Answer.{reportAnswer}
-use Rattle.page.specs.declared.ReportWritten.the-variants.{Written}
+use Rattle.record.specs.Said.{wrote}
+use Rattle.page.specs.Said.{saidReported}
 use Rattle.page.proofs.Digits.{digits-most, digits-few}
 use Rattle.page.proofs.Small.{Small, SmallXy, answer-small}
 
@@ -69,5 +70,5 @@ pub most : (bytes : List ℕ) → length (reportOf bytes) ≤ 99
 most bytes = text-length (answerOf bytes) (answer-small bytes)
 
 -- a text of 99 bytes has room for any report
-pub written : (bytes : List ℕ) (room : ℕ) → 99 ≤ room → reportAnswer bytes room ≡ Written (length (reportOf bytes))
+pub written : (bytes : List ℕ) (room : ℕ) → 99 ≤ room → saidReported (reportAnswer bytes room) ≡ wrote (length (reportOf bytes))
 written bytes room h = rw (le-leb (length (reportOf bytes)) room (omega (arith, most bytes)))

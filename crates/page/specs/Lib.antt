@@ -1,5 +1,6 @@
 -- Definitions of the crate `page`.
 pub mod Report
 pub mod Answer
+pub mod Said
 pub mod Put
 pub mod Promise

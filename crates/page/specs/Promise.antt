@@ -1,19 +1,37 @@
--- What is promised of every page, whatever the bytes are: it is never blank, and it is never long.
+-- What is promised of every page, whatever the bytes are: it is never blank, and it is never long. And what it is in the dark.
 use mathlib.Core.Path.{_≡_}
 use mathlib.Core.List.{List, [], _∷_, _++_}
 use Prim.Native.Nat.{ℕ, _-_, _≤_}
 use lib.ListN.{length, drop, replicate}
+use Rattle.grid.specs.declared.Check.the-variants.{Fine}
+use Rattle.grid.specs.Check.{gridCheck}
 use Rattle.record.specs.Format.{recordOf}
+use Rattle.record.specs.Said.{wrote}
 use Rattle.page.specs.Report.{reportOf, newline}
 use Rattle.page.specs.Answer.{reportAnswer}
-use Rattle.page.specs.declared.ReportWritten.the-variants.{Written}
+use Rattle.page.specs.Said.{saidReported}
 
 -- a page is not empty, and its last byte is a newline; it has at most 99 bytes, so a text of 99 bytes is room enough
 pub record Page : Type 0 where
   pub some : (bytes : List ℕ) → 1 ≤ length (reportOf bytes)
   pub ended : (bytes : List ℕ) → drop (length (reportOf bytes) - 1) (reportOf bytes) ≡ newline
   pub most : (bytes : List ℕ) → length (reportOf bytes) ≤ 99
-  pub written : (bytes : List ℕ) (room : ℕ) → 99 ≤ room → reportAnswer bytes room ≡ Written (length (reportOf bytes))
+  pub written : (bytes : List ℕ) (room : ℕ) → 99 ≤ room → saidReported (reportAnswer bytes room) ≡ wrote (length (reportOf bytes))
+
+-- the page of a room with no light: five zeros, and a dash for x and for y
+abbrev pub darkText : List ℕ
+darkText =
+    112 ∷ 104 ∷ 111 ∷ 116 ∷ 111 ∷ 112 ∷ 105 ∷ 99 ∷ 32 ∷ 48 ∷ 10 ∷
+    115 ∷ 99 ∷ 111 ∷ 116 ∷ 111 ∷ 112 ∷ 105 ∷ 99 ∷ 32 ∷ 48 ∷ 10 ∷
+    88 ∷ 32 ∷ 48 ∷ 10 ∷
+    89 ∷ 32 ∷ 48 ∷ 10 ∷
+    90 ∷ 32 ∷ 48 ∷ 10 ∷
+    120 ∷ 32 ∷ 45 ∷ 10 ∷
+    121 ∷ 32 ∷ 45 ∷ 10 ∷ []
+
+-- whatever the accepted grid
+pub record Dark : Type 0 where
+  pub page : (a s n : ℕ) → gridCheck a s n ≡ Fine → reportOf (recordOf a s (replicate n 0)) ≡ darkText
 
 -- the paper's example, line by line: 380 nm, step 1, 401 samples, all 0 but 1,000,000 at 460 nm
 abbrev pub exampleText : List ℕ

@@ -13,7 +13,7 @@ mod put;
 
 // What writing a report gives: the number of bytes written.
 pub enum ReportWritten {
-    Written(usize),
+    Written(u32),
     Refused(Refusal),
 }
 
@@ -31,7 +31,7 @@ pub fn write_report(bytes: &[u8], text: &mut [u8]) -> ReportWritten
         });
     }
     put::put(text, 0, &page[..length]);
-    ReportWritten::Written(length)
+    ReportWritten::Written(length as u32)
 }
 
 // The figures of the record's spectrum, or the refusal of the record.
@@ -41,7 +41,7 @@ fn answer_of(bytes: &[u8]) -> FiguresAnswer
     let mut row = [0u32; 531];
     match record::read_record(bytes, &mut row) {
         RecordRead::Read(said) => {
-            let count = said.count;
+            let count = said.count as usize;
             readings::report::figures(said.start, said.step, &row[..count])
         }
         RecordRead::Refused(refusal) => FiguresAnswer::Refused(refusal),

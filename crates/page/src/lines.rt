@@ -86,7 +86,7 @@ fn put_refusal(text: &mut [u8], at: usize, refusal: Refusal) -> usize
     let end = put_number(text, at, refusal.number as usize);
     if refusal.number == 4 {
         let place = put(text, end, b" at ");
-        return put_number(text, place, refusal.place);
+        return put_number(text, place, refusal.place as usize);
     }
     end
 }

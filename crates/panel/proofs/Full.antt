@@ -15,7 +15,7 @@ use Rattle.curves.specs.declared.Curve.the-variants.{YBar, YBar10}
 use Rattle.curves.specs.Curves.{entryOf}
 use Rattle.spectrum.specs.Line.{lineAt, T, listed, rowOf, W}
 use Rattle.spectrum.proofs.Light.{row-weighed}
-use Rattle.answers.specs.Said.{value}
+use Rattle.grid.specs.Said.{value}
 use Rattle.answers.specs.Sums.{ofObserver}
 use Rattle.panel.specs.Panel.{isIlluminant, illuminantOf, litBy, surfaceCheck, panelCheck, whiteSum, ySum}
 use Rattle.panel.specs.Promises.{xyz, fullWhite}

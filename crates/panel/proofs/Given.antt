@@ -17,7 +17,7 @@ use Rattle.curves.specs.declared.Curve.the-variants.{XBar, YBar, ZBar, XBar10, 
 use Rattle.spectrum.specs.Line.{W}
 use Rattle.spectrum.proofs.Measured.{W-linear}
 use Rattle.answers.specs.declared.XyzAnswer.{XyzAnswer}
-use Rattle.answers.specs.Said.{value}
+use Rattle.grid.specs.Said.{value}
 use Rattle.answers.specs.Sums.{ofObserver}
 use Rattle.answers.proofs.Values.{xyz-given}
 use Rattle.answers.proofs.Mixed.{xyz-order}

@@ -7,7 +7,8 @@ use lib.ListN.{length, replicate}
 use Rattle.grid.specs.declared.Check.the-variants.{Fine}
 use Rattle.grid.specs.Check.{isObserver, isStep}
 use Rattle.mixing.specs.Mixture.{Below}
-use Rattle.answers.specs.Said.{Said, value, saidXyz}
+use Rattle.grid.specs.Said.{Said, value}
+use Rattle.answers.specs.Said.{saidXyz}
 use Rattle.panel.specs.Panel.{isIlluminant, panelCheck, panelXyzOf}
 
 -- X, Y, Z as the paper's number and values

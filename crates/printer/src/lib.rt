@@ -22,7 +22,7 @@ fn report_length(bytes: &[u8], text: &mut [u8]) -> usize
     ensures { λ _. ⌜ now (text .exit) ≡ textAfter (now (bytes .entry)) (now (text .entry)) ⌝ }
 {
     match page::write_report(bytes, text) {
-        ReportWritten::Written(length) => length,
+        ReportWritten::Written(length) => length as usize,
         ReportWritten::Refused(_) => 0,
     }
 }

@@ -1,4 +1,5 @@
-// Flat answers, by value: number 0 means that the values are given, else it is the refusal's; what is not given is 0.
+// Flat answers, by value: number 0 means that the values are given, but for those that have a number of their own beside
+// them (x and y of the figures); else it is the refusal's, and what is not given is 0.
 
 #[repr(C)]
 pub struct QrReading {
@@ -28,7 +29,6 @@ pub struct QrXy {
 pub struct QrChart {
     pub number: u32,
     pub place: u32,
-    pub dark: u32,
     pub x: f64,
     pub y: f64,
 }
@@ -42,7 +42,7 @@ pub struct QrFigures {
     pub xyz_x: u32,
     pub xyz_y: u32,
     pub xyz_z: u32,
-    pub dark: u32,
+    pub xy_number: u32,
     pub x: u32,
     pub y: u32,
 }

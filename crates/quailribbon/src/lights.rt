@@ -10,7 +10,7 @@ use crate::flatten::flat_reading;
 use crate::flatten::flat_xy;
 use crate::flatten::flat_xyz;
 ghost use mathlib.Core.Path.{_≡_};
-ghost use Rattle.answers.specs.Said.{saidReading, saidXyz, saidXy};
+ghost use Rattle.answers.specs.Said.{saidReading, saidXyz, saidXy, saidChart};
 ghost use Rattle.readings.specs.Readings.{photopicOf, scotopicOf, photopic10Of, mesopicOf, xyzOf, xyOf, chartOf, figuresOf};
 ghost use Rattle.readings.specs.Figures.{saidFigures};
 ghost use Rattle.quailribbon.specs.Flat.{flatReading, flatXyz, flatXy, flatChart, flatFigures};
@@ -59,7 +59,7 @@ pub extern "C" fn qr_xy(observer: u32, start: u32, step: u32, samples: &[u32]) -
 
 #[no_mangle]
 pub extern "C" fn qr_chart(observer: u32, start: u32, step: u32, samples: &[u32]) -> QrChart
-    ensures { λ r. ⌜ r ≡ flatChart (chartOf observer start step (now (samples .entry))) ⌝ }
+    ensures { λ r. ⌜ r ≡ flatChart (saidChart (chartOf observer start step (now (samples .entry)))) ⌝ }
 {
     flat_chart(readings::colour::chart(observer, start, step, samples))
 }

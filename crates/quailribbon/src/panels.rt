@@ -6,7 +6,7 @@ use crate::flatten::flat_chart;
 use crate::flatten::flat_xy;
 use crate::flatten::flat_xyz;
 ghost use mathlib.Core.Path.{_≡_};
-ghost use Rattle.answers.specs.Said.{saidXyz, saidXy};
+ghost use Rattle.answers.specs.Said.{saidXyz, saidXy, saidChart};
 ghost use Rattle.panel.specs.Panel.{panelXyzOf, panelXyOf, panelChartOf};
 ghost use Rattle.quailribbon.specs.Flat.{flatXyz, flatXy, flatChart};
 
@@ -44,7 +44,7 @@ pub extern "C" fn qr_panel_chart(
     step: u32,
     reflectances: &[u16],
 ) -> QrChart
-    ensures { λ r. ⌜ r ≡ flatChart (panelChartOf observer illuminant start step (now (reflectances .entry))) ⌝ }
+    ensures { λ r. ⌜ r ≡ flatChart (saidChart (panelChartOf observer illuminant start step (now (reflectances .entry)))) ⌝ }
 {
     flat_chart(panel::panel_chart(observer, illuminant, start, step, reflectances))
 }

@@ -8,7 +8,9 @@ ghost use mathlib.Core.Path.{_≡_};
 ghost use lib.ListN.{length};
 ghost use Rattle.record.specs.Answer.{readAnswer, rowAfter, writeAnswer, bytesAfter};
 ghost use Rattle.page.specs.Answer.{reportAnswer, textAfter};
-ghost use Rattle.quailribbon.specs.Records.{saidRead, saidWritten, saidReported, flatRecord, flatWritten};
+ghost use Rattle.record.specs.Said.{saidRead, saidWritten};
+ghost use Rattle.page.specs.Said.{saidReported};
+ghost use Rattle.quailribbon.specs.Records.{flatRecord, flatWritten};
 
 #[no_mangle]
 pub extern "C" fn qr_read_record(bytes: &[u8], samples: &mut [u32]) -> QrRecord

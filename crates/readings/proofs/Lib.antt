@@ -4,4 +4,3 @@ pub mod LightSums
 pub mod Together
 pub mod Instances
 pub mod Unlit
-pub mod Places

@@ -2,20 +2,20 @@
 use mathlib.Core.Path.{_≡_, refl, sym, ap}
 use mathlib.Core.Bool.{Bool, true, false, cond}
 use mathlib.Core.List.{List}
-use Prim.Native.Nat.{ℕ, zero, suc, _+_, _*_, _-_, _/_, _%_, _^_, _≤_}
+use Prim.Native.Nat.{ℕ, zero, suc, _+_, _*_, _-_, _/_, _%_, _^_, _≤_, zero-le}
 use native.Mathlib.Nat.{mul-zero, add-zero}
 use borrow.Author.Tests.{le-leb}
-use lib.ListN.{getD, replicate, length}
+use lib.ListN.{getD, replicate, length, length-replicate}
 use lib.Dec.{leb}
 use Rattle.grid.specs.declared.Check.the-variants.{Fine}
-use Rattle.grid.specs.Check.{refusal, isObserver}
+use Rattle.grid.specs.Check.{refusal, isObserver, gridCheck, samplesCheck, lightCheck}
+use Rattle.grid.proofs.Limit.{within-fine}
 use Rattle.mixing.specs.Sum.{weighted}
 use Rattle.mixing.proofs.Sum.{total-none}
 use Rattle.mixing.proofs.Nearest.{nearest-none}
 use Rattle.curves.specs.declared.Curve.{Curve}
 use Rattle.curves.specs.declared.Curve.the-variants.{XBar, YBar, ZBar, XBar10, YBar10, ZBar10, VPrime}
 use Rattle.curves.specs.Curves.{weightOf}
-use Rattle.grid.specs.Check.{lightCheck}
 use Rattle.spectrum.specs.Line.{lineAt, isMeasured, endRule, T, W}
 use Rattle.answers.specs.declared.OnChart.{OnChart}
 use Rattle.answers.specs.declared.Reading.{Reading}
@@ -24,13 +24,20 @@ use Rattle.answers.specs.declared.XyAnswer.{XyAnswer}
 use Rattle.answers.specs.declared.ChartAnswer.{ChartAnswer}
 use Rattle.answers.specs.Worked.{readingFrom, xyzFrom, xyFrom, onChart}
 use Rattle.answers.specs.Sums.{ofObserver}
-use Rattle.readings.specs.Readings.{weighed, illuminanceOf, mesopicOf, xyzOf, xyOf, chartOf}
+use Rattle.readings.specs.declared.report.FiguresAnswer.{FiguresAnswer}
+use Rattle.readings.specs.Readings.{weighed, illuminanceOf, mesopicOf, xyzOf, xyOf, chartOf, figuresOf}
 use Rattle.readings.specs.Promises.{Unlit, Colourless}
 
 getD-zeros : (n i : ℕ) → _≡_ {A = ℕ} (getD (replicate n 0) i 0) 0
 getD-zeros zero i = refl
 getD-zeros (suc n) zero = refl
 getD-zeros (suc n) (suc i) = getD-zeros n i
+
+pub zeros-accepted : (a s n : ℕ) → gridCheck a s n ≡ Fine → lightCheck a s (replicate n 0) ≡ Fine
+unfolding lightCheck
+zeros-accepted a s n fine =
+    let samples : samplesCheck (replicate n 0) ≡ Fine = within-fine 4 1000000 0 (replicate n 0) (λ k. rw (getD-zeros n k) zero-le) in
+    rw (length-replicate {A = ℕ} n 0, fine) samples
 
 pub zeros : (c : Curve) (a s n : ℕ) → Unlit c a s (replicate n 0)
 unfolding T endRule lineAt
@@ -77,3 +84,12 @@ module _ (a s : ℕ) (xs : List ℕ) (fine : lightCheck a s xs ≡ Fine) where
     pub no-point : chartOf o a s xs ≡ ChartAnswer.Given OnChart.Dark
     unfolding chartOf xyFrom onChart
     no-point = rw (e, fine, no-x, no-y, no-z)
+
+  -- what the report shows of no light
+  pub no-figures :
+      Colourless 2 a s xs → Unlit VPrime a s xs →
+      figuresOf a s xs
+      ≡ FiguresAnswer.Value
+      (record { photopic = 0; scotopic = 0; xyz = record { x = 0; y = 0; z = 0 }; xy = XyAnswer.Refused (refusal 9 0) })
+  no-figures unlit night =
+      rw (no-illuminance YBar 683 (unlit .1), no-illuminance VPrime 1700 night, no-xyz 2 refl unlit, no-xy 2 refl unlit)

@@ -2,15 +2,15 @@
 use mathlib.Core.List.{List, [], _∷_}
 use Prim.Native.Nat.{ℕ}
 use Rattle.answers.specs.declared.XyAnswer.{XyAnswer}
-use Rattle.answers.specs.Said.{Said, given, refusedWith}
+use Rattle.grid.specs.Said.{Said, value, given, refusedWith}
+use Rattle.answers.specs.Said.{saidXy}
 use Rattle.readings.specs.declared.report.FiguresAnswer.{FiguresAnswer}
 
--- whether they are dark, and x and y, 0 where they are
+-- the number of x and y, which they have beside them, and x and y, 0 where they are refused
 abbrev pub colourValues : XyAnswer → List ℕ
-colourValues (XyAnswer.Value v) = 0 ∷ v .x ∷ v .y ∷ []
-colourValues (XyAnswer.Refused r) = 1 ∷ 0 ∷ 0 ∷ []
+colourValues xy = saidXy xy .number ∷ value (saidXy xy) 0 ∷ value (saidXy xy) 1 ∷ []
 
--- photopic, scotopic, X, Y, Z, whether dark, x, y
+-- photopic, scotopic, X, Y, Z, the number of x and y, x, y
 abbrev pub saidFigures : FiguresAnswer → Said
 saidFigures (FiguresAnswer.Value f) =
     given (f .photopic ∷ f .scotopic ∷ f .xyz .x ∷ f .xyz .y ∷ f .xyz .z ∷ colourValues (f .xy)) []

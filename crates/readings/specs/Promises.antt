@@ -1,27 +1,23 @@
 -- What is promised of mixed light, of light in order and of darkness, said of these readings.
 use mathlib.Core.Path.{_≡_}
 use mathlib.Core.Bool.{true}
-use mathlib.Core.List.{List}
+use mathlib.Core.List.{List, [], _∷_}
 use Prim.Native.Nat.{ℕ, _+_, _*_, _≤_}
 use lib.ListN.{length, replicate}
 use Rattle.grid.specs.declared.Check.the-variants.{Fine}
-use Rattle.grid.specs.Check.{Within, refusal, isObserver}
+use Rattle.grid.specs.Check.{Within, refusal, isObserver, gridCheck, lightCheck}
 use Rattle.mixing.specs.Mixture.{mix, Below}
 use Rattle.mixing.specs.Promise.{Between}
 use Rattle.mixing.specs.Promise.{Within as Differ}
 use Rattle.curves.specs.declared.Curve.{Curve}
 use Rattle.curves.specs.declared.Curve.the-variants.{XBar, YBar, ZBar, XBar10, YBar10, ZBar10, VPrime}
 use Rattle.curves.specs.Curves.{weightOf}
-use Rattle.grid.specs.Check.{lightCheck}
 use Rattle.spectrum.specs.Line.{T}
-use Rattle.answers.specs.declared.OnChart.{OnChart}
-use Rattle.answers.specs.declared.Reading.{Reading}
-use Rattle.answers.specs.declared.XyzAnswer.{XyzAnswer}
-use Rattle.answers.specs.declared.XyAnswer.{XyAnswer}
-use Rattle.answers.specs.declared.ChartAnswer.{ChartAnswer}
-use Rattle.answers.specs.Said.{Said, value, saidReading, saidXyz, saidXy}
+use Rattle.grid.specs.Said.{Said, value, given, refusedWith}
+use Rattle.answers.specs.Said.{saidReading, saidXyz, saidXy, saidChart}
 use Rattle.answers.specs.Sums.{ofObserver}
-use Rattle.readings.specs.Readings.{photopicOf, scotopicOf, photopic10Of, mesopicOf, xyzOf, xyOf, chartOf}
+use Rattle.readings.specs.Readings.{photopicOf, scotopicOf, photopic10Of, mesopicOf, xyzOf, xyOf, chartOf, figuresOf}
+use Rattle.readings.specs.Figures.{saidFigures}
 
 -- an answer by start, step and samples, as the paper's number, place and values
 abbrev pub Answer : Type 0
@@ -86,26 +82,40 @@ abbrev pub Colourless : ℕ → ℕ → ℕ → List ℕ → Type 0
 Colourless o a s xs =
     Unlit (ofObserver o XBar XBar10) a s xs × Unlit (ofObserver o YBar YBar10) a s xs × Unlit (ofObserver o ZBar ZBar10) a s xs
 
+-- one reading of zero; X, Y and Z of zero; a colour refused as dark
+abbrev pub nought : Said
+nought = given (0 ∷ []) []
+
+abbrev pub noughts : Said
+noughts = given (0 ∷ 0 ∷ 0 ∷ []) []
+
+abbrev pub dark : Said
+dark = refusedWith (refusal 9 0)
+
 pub record Darkness : Type 0 where
-  -- a room with no light
+  -- a room with no light is accepted on every accepted grid, and has no light where any curve has weight
+  pub accepted : (a s n : ℕ) → gridCheck a s n ≡ Fine → lightCheck a s (replicate n 0) ≡ Fine
   pub zeros : (c : Curve) (a s n : ℕ) → Unlit c a s (replicate n 0)
-  pub photopic : (a s : ℕ) (xs : List ℕ) → lightCheck a s xs ≡ Fine → Unlit YBar a s xs → photopicOf a s xs ≡ Reading.Value 0
-  pub scotopic : (a s : ℕ) (xs : List ℕ) → lightCheck a s xs ≡ Fine → Unlit VPrime a s xs → scotopicOf a s xs ≡ Reading.Value 0
+  pub photopic : (a s : ℕ) (xs : List ℕ) → lightCheck a s xs ≡ Fine → Unlit YBar a s xs → saidReading (photopicOf a s xs) ≡ nought
+  pub scotopic : (a s : ℕ) (xs : List ℕ) → lightCheck a s xs ≡ Fine → Unlit VPrime a s xs → saidReading (scotopicOf a s xs) ≡ nought
   pub photopic-10 :
-      (a s : ℕ) (xs : List ℕ) → lightCheck a s xs ≡ Fine → Unlit YBar10 a s xs → photopic10Of a s xs ≡ Reading.Value 0
+      (a s : ℕ) (xs : List ℕ) → lightCheck a s xs ≡ Fine → Unlit YBar10 a s xs → saidReading (photopic10Of a s xs) ≡ nought
   pub mesopic :
       (k a s : ℕ) (xs : List ℕ) → k ≤ 1000 → lightCheck a s xs ≡ Fine → Unlit YBar a s xs → Unlit VPrime a s xs →
-      mesopicOf k a s xs ≡ Reading.Value 0
+      saidReading (mesopicOf k a s xs) ≡ nought
   pub xyz :
       (o a s : ℕ) (xs : List ℕ) → isObserver o ≡ true → lightCheck a s xs ≡ Fine → Colourless o a s xs →
-      xyzOf o a s xs ≡ XyzAnswer.Value (record { x = 0; y = 0; z = 0 })
+      saidXyz (xyzOf o a s xs) ≡ noughts
   pub xy :
-      (o a s : ℕ) (xs : List ℕ) → isObserver o ≡ true → lightCheck a s xs ≡ Fine → Colourless o a s xs →
-      xyOf o a s xs ≡ XyAnswer.Refused (refusal 9 0)
+      (o a s : ℕ) (xs : List ℕ) → isObserver o ≡ true → lightCheck a s xs ≡ Fine → Colourless o a s xs → saidXy (xyOf o a s xs) ≡ dark
   pub chart :
       (o a s : ℕ) (xs : List ℕ) → isObserver o ≡ true → lightCheck a s xs ≡ Fine → Colourless o a s xs →
-      chartOf o a s xs ≡ ChartAnswer.Given OnChart.Dark
+      saidChart (chartOf o a s xs) ≡ dark
+  -- the figures in one call: five zeros, and 9 for x and y
+  pub figures :
+      (a s : ℕ) (xs : List ℕ) → lightCheck a s xs ≡ Fine → Colourless 2 a s xs → Unlit VPrime a s xs →
+      saidFigures (figuresOf a s xs) ≡ given (0 ∷ 0 ∷ 0 ∷ 0 ∷ 0 ∷ 9 ∷ 0 ∷ 0 ∷ []) []
 
 -- at k = 1000 the mesopic reading is the photopic one, refusals and all
 pub record AtThousand : Type 0 where
-  pub mesopic : (a s : ℕ) (xs : List ℕ) → mesopicOf 1000 a s xs ≡ photopicOf a s xs
+  pub mesopic : (a s : ℕ) (xs : List ℕ) → saidReading (mesopicOf 1000 a s xs) ≡ saidReading (photopicOf a s xs)

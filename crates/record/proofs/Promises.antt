@@ -7,6 +7,7 @@ use native.Mathlib.Omega.{arith}
 use borrow.Author.Tests.{le-leb}
 use lib.ListN.{length, take, drop}
 use lib.Seq.{take-at}
+use Rattle.grid.specs.Said.{Said}
 use Rattle.grid.specs.declared.Check.the-variants.{Fine}
 use Rattle.record.specs.Bits.{pack, bytewise, Bytes}
 use Rattle.record.specs.Format.{headerWidths, bodyWidths, headerFields, bodyFields, lengthOf, recordOf, startOf, stepOf, countOf, samplesOf}
@@ -14,8 +15,9 @@ use Rattle.grid.specs.Check.{lightCheck}
 use Rattle.record.specs.Answer.{recordCheck, readCheck, roomCheck, header, readAnswer, rowAfter, writeAnswer, bytesAfter}
 use Rattle.record.specs.Promise.{ReadBack, WrittenBack, OneToOne, Length}
 use Rattle.record.specs.declared.Header.{Header}
-use Rattle.record.specs.declared.RecordRead.the-variants.{Read}
-use Rattle.record.specs.declared.RecordWritten.the-variants.{Written}
+use Rattle.record.specs.Said.{readAs, wrote, saidRead, saidWritten}
+use Rattle.record.specs.declared.RecordRead.{RecordRead}
+use Rattle.record.specs.declared.RecordRead.the-variants.{Read, Refused}
 use Rattle.record.proofs.Rows.{row-fits, fit-cut, packed-bits}
 use Rattle.record.proofs.Fields.{samples-length}
 use Rattle.grid.proofs.Light.{both-fine, on-grid}
@@ -26,7 +28,7 @@ use Rattle.record.proofs.Round.{length-record, start-back, step-back, c
 module _ (a s : ℕ) (xs : List ℕ) (fine : lightCheck a s xs ≡ Fine) where
   written :
       (bytes : List ℕ) → lengthOf (length xs) ≤ length bytes →
-      (writeAnswer a s xs (length bytes) ≡ Written (lengthOf (length xs)))
+      (saidWritten (writeAnswer a s xs (length bytes)) ≡ wrote (lengthOf (length xs)))
       × (bytesAfter a s xs bytes ≡ recordOf a s xs ++ drop (lengthOf (length xs)) bytes)
   written bytes room =
       let e = le-leb (lengthOf (length xs)) (length bytes) room in
@@ -34,7 +36,7 @@ module _ (a s : ℕ) (xs : List ℕ) (fine : lightCheck a s xs ≡ Fine) where
 
   read :
       (row : List ℕ) → length xs ≤ length row →
-      (readAnswer (recordOf a s xs) (length row) ≡ Read (header a s (length xs)))
+      (saidRead (readAnswer (recordOf a s xs) (length row)) ≡ readAs a s (length xs))
       × (rowAfter (recordOf a s xs) row ≡ xs ++ drop (length xs) row)
   read row room =
       let e = le-leb (length xs) (length row) room in
@@ -45,6 +47,16 @@ module _ (a s : ℕ) (xs : List ℕ) (fine : lightCheck a s xs ≡ Fine) where
 
 pub read-back : ReadBack
 read-back = record { written = λ a s xs bytes fine room. written a s xs fine bytes room; read = λ a s xs row fine room. read a s xs fine row room }
+
+-- an answer that says that a record was read, has read it
+pub was-read : (answer : RecordRead) (a s n : ℕ) → saidRead answer ≡ readAs a s n → answer ≡ Read (header a s n)
+was-read (Read h) a s n e =
+    let values = ap (λ (said : Said). said .values) e in
+    let start : h .start ≡ a = cc in
+    let step : h .step ≡ s = cc in
+    let count : h .count ≡ n = cc in
+    rw (← start, ← step, ← count)
+was-read (Refused r) a s n e = absurd (let values = ap (λ (said : Said). said .values) e in let z : _≡_ {A = ℕ} 0 1 = cc in omega arith)
 
 -- a record that the reader accepts
 module _ (bytes row : List ℕ) (h : Header) (e : readAnswer bytes (length row) ≡ Read h) where
@@ -71,12 +83,12 @@ module _ (bytes row : List ℕ) (h : Header) (e : readAnswer bytes (length row) 
 
   written-again :
       (lent : List ℕ) → Bytes bytes → length bytes ≤ length lent →
-      (writeAnswer (h .start) (h .step) (take (h .count) (rowAfter bytes row)) (length lent) ≡ Written (length bytes))
+      (saidWritten (writeAnswer (h .start) (h .step) (take (h .count) (rowAfter bytes row)) (length lent)) ≡ wrote (length bytes))
       × (bytesAfter (h .start) (h .step) (take (h .count) (rowAfter bytes row)) lent ≡ bytes ++ drop (length bytes) lent)
   written-again lent known room =
       let xs = samplesOf (countOf bytes) bytes in
       let done = written (startOf bytes) (stepOf bytes) xs (spectrum-accepted bytes fine) lent (rw same-length room) in (
-        same-spectrum (λ a s ys. writeAnswer a s ys (length lent)) ∙ done .0 ∙ ap Written same-length,
+        same-spectrum (λ a s ys. saidWritten (writeAnswer a s ys (length lent))) ∙ done .0 ∙ ap wrote same-length,
         same-spectrum (λ a s ys. bytesAfter a s ys lent)
             ∙ done .1
             ∙ ap₂ (λ (b : List ℕ) (k : ℕ). b ++ drop k lent) (bytes-again bytes fine known) same-length,
@@ -85,19 +97,24 @@ module _ (bytes row : List ℕ) (h : Header) (e : readAnswer bytes (length row) 
 pub written-back : WrittenBack
 written-back =
     record {
-      answer = λ bytes row lent h known e room. written-again bytes row h e lent known room .0;
-      bytes = λ bytes row lent h known e room. written-again bytes row h e lent known room .1;
+      answer = λ bytes row lent a s n known e room.
+          written-again bytes row (header a s n) (was-read (readAnswer bytes (length row)) a s n e) lent known room .0;
+      bytes = λ bytes row lent a s n known e room.
+          written-again bytes row (header a s n) (was-read (readAnswer bytes (length row)) a s n e) lent known room .1;
     }
 
 pub one-to-one : OneToOne
 one-to-one =
     record {
-      same = λ bytes others row h known known′ e e′ samples.
-          sym (bytes-again bytes (fine bytes row h e) known)
-          ∙ sym (same-spectrum bytes row h e recordOf)
-          ∙ ap (recordOf (h .start) (h .step)) samples
-          ∙ same-spectrum others row h e′ recordOf
-          ∙ bytes-again others (fine others row h e′) known′;
+      same = λ bytes others row a s n known known′ e e′ samples.
+          let h = header a s n in
+          let one = was-read (readAnswer bytes (length row)) a s n e in
+          let other = was-read (readAnswer others (length row)) a s n e′ in
+          sym (bytes-again bytes (fine bytes row h one) known)
+          ∙ sym (same-spectrum bytes row h one recordOf)
+          ∙ ap (recordOf a s) samples
+          ∙ same-spectrum others row h other recordOf
+          ∙ bytes-again others (fine others row h other) known′;
     }
 
 record-bytes : (a s : ℕ) (xs : List ℕ) → Bytes (recordOf a s xs)

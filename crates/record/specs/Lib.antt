@@ -2,5 +2,6 @@
 pub mod Bits
 pub mod Format
 pub mod Answer
+pub mod Said
 pub mod Leaf
 pub mod Promise

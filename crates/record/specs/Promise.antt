@@ -7,37 +7,37 @@ use Rattle.grid.specs.declared.Check.the-variants.{Fine}
 use Rattle.record.specs.Bits.{Bytes}
 use Rattle.record.specs.Format.{lengthOf, recordOf}
 use Rattle.grid.specs.Check.{lightCheck}
-use Rattle.record.specs.Answer.{header, readAnswer, rowAfter, writeAnswer, bytesAfter}
-use Rattle.record.specs.declared.Header.{Header}
-use Rattle.record.specs.declared.RecordRead.the-variants.{Read}
-use Rattle.record.specs.declared.RecordWritten.the-variants.{Written}
+use Rattle.record.specs.Answer.{readAnswer, rowAfter, writeAnswer, bytesAfter}
+use Rattle.record.specs.Said.{readAs, wrote, saidRead, saidWritten}
 
 -- an accepted spectrum is written where there is room, and reading its record gives it back
 pub record ReadBack : Type 0 where
   pub written :
       (a s : ℕ) (xs bytes : List ℕ) → lightCheck a s xs ≡ Fine → lengthOf (length xs) ≤ length bytes →
-      (writeAnswer a s xs (length bytes) ≡ Written (lengthOf (length xs)))
+      (saidWritten (writeAnswer a s xs (length bytes)) ≡ wrote (lengthOf (length xs)))
       × (bytesAfter a s xs bytes ≡ recordOf a s xs ++ drop (lengthOf (length xs)) bytes)
   pub read :
       (a s : ℕ) (xs row : List ℕ) → lightCheck a s xs ≡ Fine → length xs ≤ length row →
-      (readAnswer (recordOf a s xs) (length row) ≡ Read (header a s (length xs)))
+      (saidRead (readAnswer (recordOf a s xs) (length row)) ≡ readAs a s (length xs))
       × (rowAfter (recordOf a s xs) row ≡ xs ++ drop (length xs) row)
 
 -- what is read of an accepted record, written where there is room, gives the very bytes
 pub record WrittenBack : Type 0 where
   pub answer :
-      (bytes row lent : List ℕ) (h : Header) → Bytes bytes → readAnswer bytes (length row) ≡ Read h → length bytes ≤ length lent →
-      writeAnswer (h .start) (h .step) (take (h .count) (rowAfter bytes row)) (length lent) ≡ Written (length bytes)
+      (bytes row lent : List ℕ) (a s n : ℕ) → Bytes bytes → saidRead (readAnswer bytes (length row)) ≡ readAs a s n →
+      length bytes ≤ length lent →
+      saidWritten (writeAnswer a s (take n (rowAfter bytes row)) (length lent)) ≡ wrote (length bytes)
   pub bytes :
-      (bytes row lent : List ℕ) (h : Header) → Bytes bytes → readAnswer bytes (length row) ≡ Read h → length bytes ≤ length lent →
-      bytesAfter (h .start) (h .step) (take (h .count) (rowAfter bytes row)) lent ≡ bytes ++ drop (length bytes) lent
+      (bytes row lent : List ℕ) (a s n : ℕ) → Bytes bytes → saidRead (readAnswer bytes (length row)) ≡ readAs a s n →
+      length bytes ≤ length lent →
+      bytesAfter a s (take n (rowAfter bytes row)) lent ≡ bytes ++ drop (length bytes) lent
 
 -- two accepted records that read alike are the same bytes
 pub record OneToOne : Type 0 where
   pub same :
-      (bytes others row : List ℕ) (h : Header) → Bytes bytes → Bytes others →
-      readAnswer bytes (length row) ≡ Read h → readAnswer others (length row) ≡ Read h →
-      take (h .count) (rowAfter bytes row) ≡ take (h .count) (rowAfter others row) → bytes ≡ others
+      (bytes others row : List ℕ) (a s n : ℕ) → Bytes bytes → Bytes others →
+      saidRead (readAnswer bytes (length row)) ≡ readAs a s n → saidRead (readAnswer others (length row)) ≡ readAs a s n →
+      take n (rowAfter bytes row) ≡ take n (rowAfter others row) → bytes ≡ others
 
 -- the length of an accepted spectrum's record, from 106 bytes to 1,331
 pub record Length : Type 0 where

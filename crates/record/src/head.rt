@@ -27,8 +27,8 @@ pub fn read_header(bytes: &[u8]) -> RecordRead
     }
     let start = 300 + number / 2048 % 128;
     let step = step_of(number / 262144 % 4);
-    let count = (number / 2 % 1024) as usize;
-    match grid::check_grid(start, step, count) {
+    let count = number / 2 % 1024;
+    match grid::check_grid(start, step, count as usize) {
         Check::Fine => RecordRead::Read(Header { start, step, count }),
         Check::Refused(refusal) => RecordRead::Refused(refusal),
     }

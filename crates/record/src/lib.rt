@@ -17,7 +17,7 @@ mod unpack;
 pub struct Header {
     pub start: u32,
     pub step: u32,
-    pub count: usize,
+    pub count: u32,
 }
 
 // What reading a record gives.
@@ -28,7 +28,7 @@ pub enum RecordRead {
 
 // What writing a record gives: the number of bytes written.
 pub enum RecordWritten {
-    Written(usize),
+    Written(u32),
     Refused(Refusal),
 }
 
@@ -42,7 +42,7 @@ pub fn read_record(bytes: &[u8], samples: &mut [u32]) -> RecordRead
     let RecordRead::Read(said) = answer else {
         return answer;
     };
-    let count = said.count;
+    let count = said.count as usize;
     match body::read_body(bytes, count, samples) {
         Check::Fine => RecordRead::Read(said),
         Check::Refused(refusal) => RecordRead::Refused(refusal),
@@ -77,5 +77,5 @@ fn write_accepted(start: u32, step: u32, samples: &[u32], bytes: &mut [u8]) -> R
     let number = head::header_number(start, step, count);
     triple::put_three(bytes, 0, number);
     pack::pack(samples, bytes);
-    RecordWritten::Written(length)
+    RecordWritten::Written(length as u32)
 }

@@ -1,6 +1,6 @@
 //! Answers laid flat, as the C boundary has them: a refusal gives its number and place, else 0.
 
-use super::refusal::{Refusal, DARK};
+use super::refusal::Refusal;
 use crate::answers::{ChartAnswer, Reading, XyAnswer, XyzAnswer};
 
 pub fn reading(answer: Result<u32, Refusal>) -> Reading {
@@ -48,16 +48,12 @@ pub fn xy_answer(answer: Result<[u32; 2], Refusal>) -> XyAnswer {
     }
 }
 
-/// The chart answer: dark where x and y are refused 9.
+/// The chart answer: refused as x and y are, 9 where dark.
 pub fn chart_answer(answer: Result<[u32; 2], Refusal>) -> ChartAnswer {
     match answer {
         Ok([x, y]) => ChartAnswer {
             x: f64::from(x) / 100000.0,
             y: f64::from(y) / 100000.0,
-            ..Default::default()
-        },
-        Err(refusal) if refusal.number == DARK.number => ChartAnswer {
-            dark: 1,
             ..Default::default()
         },
         Err(Refusal { number, place }) => ChartAnswer {

@@ -53,9 +53,9 @@ fn seven(start: u32, step: u32, samples: &[u32]) -> Result<FiguresAnswer, Refusa
     let millilux = |sum: u128| nearest(observer.efficacy * sum, u128::from(step) * SCALE);
     let [x, y, z] = [millilux(sums[0])?, millilux(sums[1])?, millilux(sums[2])?];
     let scotopic = nearest(1700 * weigh(&V_PRIME, &line), u128::from(step) * SCALE)?;
-    let (dark, [chart_x, chart_y]) = match coordinates(sums) {
+    let (xy_number, [chart_x, chart_y]) = match coordinates(sums) {
         Ok(coordinates) => (0, coordinates),
-        Err(refusal) if refusal.number == DARK.number => (1, [0, 0]),
+        Err(refusal) if refusal.number == DARK.number => (DARK.number, [0, 0]),
         Err(refusal) => return Err(refusal),
     };
     Ok(FiguresAnswer {
@@ -66,7 +66,7 @@ fn seven(start: u32, step: u32, samples: &[u32]) -> Result<FiguresAnswer, Refusa
         X: x,
         Y: y,
         Z: z,
-        dark,
+        xy_number,
         x: chart_x,
         y: chart_y,
     })

@@ -40,8 +40,8 @@ fn page(record: &[u8]) -> String {
         light.X,
         light.Y,
         light.Z,
-        coordinate(light.dark, light.x),
-        coordinate(light.dark, light.y),
+        coordinate(light.xy_number, light.x),
+        coordinate(light.xy_number, light.y),
     )
 }
 
@@ -53,8 +53,8 @@ fn refused(number: u32, place: u32) -> String {
     }
 }
 
-fn coordinate(dark: u32, hundred_thousandths: u32) -> String {
-    if dark == 1 {
+fn coordinate(number: u32, hundred_thousandths: u32) -> String {
+    if number != 0 {
         return "-".to_string();
     }
     let (whole, rest) = (hundred_thousandths / 100_000, hundred_thousandths % 100_000);

@@ -3,6 +3,7 @@ use mathlib.Core.Path.{_≡_, sym, _∙_}
 use lib.ListN.{length}
 use Rattle.grid.specs.declared.Check.the-variants.{Fine}
 use Rattle.grid.specs.Check.{gridCheck, lightCheck}
+use Rattle.grid.proofs.Accepted.{accepted}
 use borrow.Author.Needs.{needs}
 use Rattle.grid.proofs.check_light.Statement.{statement}
 use Rattle.grid.proofs.check_light.Tie as tie
@@ -13,8 +14,11 @@ check-grid-requires c κs = search needs
 enum-told : tie.Need-enum-told
 enum-told c = search needs
 
+-- a grid that is accepted has no more than 531 samples
 check-samples-requires : tie.Need-check-samples-requires
-check-samples-requires c κs = search needs
+check-samples-requires c κs =
+    let s = c .before .before .before .before .args in
+    accepted (s .start) (s .step) (length (s .samples .now)) (cc) .many
 
 enum-known-on-grid : tie.Need-enum-known-on-grid
 enum-known-on-grid c = search needs

@@ -25,11 +25,15 @@ mul-if1 c = search needs
 shared-slice-read-if1 : tie.Need-shared-slice-read-if1 Inv-loop μ-loop
 shared-slice-read-if1 c = omega arith
 
+-- a row that long has no place past 32 bits
+cast-t10 : tie.Need-cast-t10 Inv-loop μ-loop
+cast-t10 c = omega arith
+
 returns : tie.Need-returns Inv-loop μ-loop
 returns c =
-    let s = c .before .before .before .before .args in
-    let k = c .before .before .before .loop .k in
-    sym (rw zero-add at (first-fault (s .number) (s .limit) 0 (s .samples .now) k (c .before .before .loop-test .taken) (c .before .before .before .loop .inv .1) (c .if1 .taken)))
+    let turn = c .before .before .before in
+    let s = turn .before .args in
+    sym (rw zero-add at (first-fault (s .number) (s .limit) 0 (s .samples .now) (turn .loop .k) (c .before .before .loop-test .taken) (turn .loop .inv .1) (c .if1 .taken)))
 
 add-k : tie.Need-add-k Inv-loop μ-loop
 add-k c = omega arith
@@ -54,6 +58,7 @@ first-fault-spec =
     loop-holds
     mul-if1
     shared-slice-read-if1
+    cast-t10
     returns
     add-k
     loop-less

@@ -43,11 +43,14 @@ read-record-requires c κs = search needs
 enum-known-said : tie.Need-enum-known-said
 enum-known-said c = search needs
 
+cast-count : tie.Need-cast-count
+cast-count c = search needs
+
 array-share-prefix-row : tie.Need-array-share-prefix-row
-array-share-prefix-row c = count-fits (c .before)
+array-share-prefix-row c = count-fits (c .before .before)
 
 slice-aggregate-figures : tie.Need-slice-aggregate-figures
-slice-aggregate-figures c = let h = count-fits (c .before .before) in simp length-take (omega arith)
+slice-aggregate-figures c = let h = count-fits (c .before .before .before) in simp length-take (omega arith)
 
 figures-requires : tie.Need-figures-requires
 figures-requires c κs = search needs
@@ -58,7 +61,7 @@ enum-known-refusal c = search needs
 returns : tie.Need-returns
 unfolding answerOf
 returns c =
-    let read = c .before .before .before in
+    let read = c .before .before .before .before in
     let told = answer read in
     rw (fine (bytes read) lent (head read) told)
     (c .figures .ensures
@@ -81,6 +84,7 @@ answer-of-spec =
     slice-aggregate-read-record
     read-record-requires
     enum-known-said
+    cast-count
     array-share-prefix-row
     slice-aggregate-figures
     figures-requires

@@ -48,6 +48,9 @@ slice-aggregate-put c = let page = c .before .before .before .before in length-o
 put-requires : tie.Need-put-requires
 put-requires c κs = let page = c .before .before .before .before in rw (text-of page) (omega (arith, length-of page, c .before .before .if1 .left))
 
+cast-t15 : tie.Need-cast-t15
+cast-t15 c = search needs
+
 same-length : tie.Need-same-length
 same-length c = search needs
 
@@ -70,5 +73,6 @@ write-report-spec =
     array-share-prefix-page
     slice-aggregate-put
     put-requires
+    cast-t15
     same-length
     returns-2)

@@ -1,24 +1,35 @@
 -- The report is never refused, so the length that is given is the report's in either arm.
-use mathlib.Core.Path.{sym, ap, _∙_}
-use Prim.Native.Nat.{ℕ}
+use mathlib.Core.Path.{_≡_, sym, ap, _∙_}
+use mathlib.Core.List.{List}
+use Prim.Native.Nat.{ℕ, _≤_}
+use lib.ListN.{length}
 use native.Mathlib.Omega.{arith}
 use borrow.Author.Needs.{needs}
 use Rattle.page.specs.declared.ReportWritten.{ReportWritten}
-use Rattle.page.specs.declared.ReportWritten.the-variants.{Written, Refused}
+use Rattle.grid.specs.Said.{Said, value}
+use Rattle.page.specs.Report.{reportOf}
+use Rattle.page.specs.Answer.{reportAnswer}
+use Rattle.page.specs.Said.{saidReported}
 use Rattle.page.proofs.Length.{written}
 use Rattle.printer.proofs.report_length.Statement.{statement}
 use Rattle.printer.proofs.report_length.Tie as tie
 
--- the length that an answer gives
-abbrev given : ReportWritten → ℕ
-given (Written n) = n
-given (Refused r) = 0
+-- the length that an answer says
+abbrev length-said : ReportWritten → ℕ
+length-said answer = value (saidReported answer) 0
+
+-- which is the report's
+is-length : (bytes : List ℕ) (room : ℕ) (answer : ReportWritten) → answer ≡ reportAnswer bytes room → 99 ≤ room → length-said answer ≡ length (reportOf bytes)
+is-length bytes room answer e h = ap length-said e ∙ ap (λ (said : Said). value said 0) (written bytes room h)
 
 write-report-requires : tie.Need-write-report-requires
 write-report-requires c κs = search needs
 
 enum-known-length : tie.Need-enum-known-length
 enum-known-length c = search needs
+
+cast-result : tie.Need-cast-result
+cast-result c = search needs
 
 enum-told : tie.Need-enum-told
 enum-told c = search needs
@@ -29,7 +40,7 @@ same-length c = search needs
 returns : tie.Need-returns
 returns c =
     let report = c .before .before .before .before .before .write-report in
-    (ap given (sym (c .before .length .given .1) ∙ report .ensures .0 ∙ written _ _ (omega arith)), report .ensures .1)
+    (ap length-said (sym (c .before .length .given .1)) ∙ is-length _ _ _ (report .ensures .0) (omega arith), report .ensures .1)
 
 same-length-2 : tie.Need-same-length-2
 same-length-2 c = search needs
@@ -37,7 +48,7 @@ same-length-2 c = search needs
 returns-2 : tie.Need-returns-2
 returns-2 c =
     let report = c .before .before .before .before .write-report in
-    (ap given (sym (c .enum-told .given .1) ∙ report .ensures .0 ∙ written _ _ (omega arith)), report .ensures .1)
+    (ap length-said (sym (c .enum-told .given .1)) ∙ is-length _ _ _ (report .ensures .0) (omega arith), report .ensures .1)
 
 pub report-length-spec : {M : Type 1} → statement M
 report-length-spec =
@@ -45,6 +56,7 @@ report-length-spec =
     (tie.spec
     write-report-requires
     enum-known-length
+    cast-result
     enum-told
     same-length
     returns

@@ -33,10 +33,14 @@ said c =
 count : (c : tie.After-answer) → c .answer .given .0 .0 .count ≡ countOf (bytes c)
 count c = ap (λ (h : Header). h .count) (said c .1)
 
+-- where the body is read, the header's answer was this
+abbrev heading : tie.After-read-body → tie.After-answer
+heading c = c .before .before .before .before
+
 -- then what the body's check gives is what the reader's does
-checked : (c : tie.After-read-body) → readCheck (bytes (c .before .before .before)) (length (row (c .before .before .before))) ≡ c .read-body .result
+checked : (c : tie.After-read-body) → readCheck (bytes (heading c)) (length (row (heading c))) ≡ c .read-body .result
 checked c =
-    let answer = c .before .before .before in
+    let answer = heading c in
     header-passed (bytes answer) (length (row answer)) (said answer .0)
     ∙ ap (λ (n : ℕ). restCheck n (bytes answer) (length (row answer))) (sym (count answer))
     ∙ sym (c .read-body .ensures .0)
@@ -59,9 +63,12 @@ returns c =
     let e = header-refused bytes refusal (answer-refused (headerCheck bytes) (header (startOf bytes) (stepOf bytes) (countOf bytes)) refusal answer) in
     (rw e told, rw e)
 
+cast-count : tie.Need-cast-count
+cast-count c = search needs
+
 read-body-requires : tie.Need-read-body-requires
 read-body-requires c κs =
-    let answer = c .before .before in
+    let answer = c .before .before .before in
     let fine = header-fine (bytes answer) (said answer .0) in
     let grid = accepted (startOf (bytes answer)) (stepOf (bytes answer)) (countOf (bytes answer)) (fine .grid) in
     (rw (count answer) (grid .some), rw (count answer) (grid .many))
@@ -78,7 +85,7 @@ same-length c = search needs
 returns-2 : tie.Need-returns-2
 returns-2 c =
     let body = c .before .before .before .before in
-    let answer = body .before .before .before in
+    let answer = heading body in
     let told = c .enum-told2 .given .1 in
     let e = checked body ∙ told in
     let copied = rw (sym (body .read-body .ensures .0) ∙ told) at (body .read-body .ensures .1) in (
@@ -104,6 +111,7 @@ read-record-spec =
     enum-known-answer
     enum-told
     returns
+    cast-count
     read-body-requires
     enum-told-2
     enum-known-refusal

@@ -40,6 +40,11 @@ pack-requires c κs =
     let room = c .before .before .before .before .before .before .if1 .left in
     (within (start .args .start) (start .args .step) (start .args .samples .now) (start .pre), grid start .many, omega (arith, kept, long, room))
 
+cast-t16 : tie.Need-cast-t16
+cast-t16 c =
+    let head = c .before .before .before .before .before .before .before .before in
+    omega (arith, head .before .before .length-of .ensures, grid (head .before .before .before .before .before) .many)
+
 same-length : tie.Need-same-length
 same-length c = search needs
 
@@ -67,5 +72,6 @@ write-accepted-spec =
     header-number-requires
     put-three-requires
     pack-requires
+    cast-t16
     same-length
     returns-2)

@@ -20,6 +20,9 @@ write-record-requires c κs = search needs
 enum-known-answer : tie.Need-enum-known-answer
 enum-known-answer c = search needs
 
+cast-print-decimal : tie.Need-cast-print-decimal
+cast-print-decimal c = search needs
+
 print-decimal-requires : tie.Need-print-decimal-requires
 print-decimal-requires c κs = search needs
 
@@ -44,6 +47,7 @@ cramped-spec =
     slice-aggregate-write-record
     write-record-requires
     enum-known-answer
+    cast-print-decimal
     print-decimal-requires
     enum-known-answer-2
     refused-requires

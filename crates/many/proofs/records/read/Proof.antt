@@ -23,6 +23,9 @@ read-record-requires c κs = search needs
 enum-known-answer : tie.Need-enum-known-answer
 enum-known-answer c = search needs
 
+cast-spectrum : tie.Need-cast-spectrum
+cast-spectrum c = search needs
+
 spectrum-requires : tie.Need-spectrum-requires
 spectrum-requires c κs = search needs
 
@@ -48,6 +51,7 @@ read-spec =
     slice-aggregate-read-record-2
     read-record-requires
     enum-known-answer
+    cast-spectrum
     spectrum-requires
     enum-known-answer-2
     refused-requires

@@ -35,9 +35,12 @@ put-requires c κs =
     let more = simp length-append at (ap length (placed (start .args .refusal) (c .before .before .if1 .taken))) in
     omega (arith, start .pre, more)
 
+cast-put-number-2 : tie.Need-cast-put-number-2
+cast-put-number-2 c = search needs
+
 put-number-requires-2 : tie.Need-put-number-requires-2
 put-number-requires-2 c κs =
-    let taken = c .before .before .before .before .before .before in
+    let taken = c .before .before .before .before .before .before .before in
     let start = taken .before .before .before .before .before .before .before .before in
     let more = simp length-append at (ap length (placed (start .args .refusal) (taken .if1 .taken))) in
     omega (arith, start .pre, more)
@@ -47,10 +50,10 @@ same-length c = search needs
 
 returns : tie.Need-returns
 returns c =
-    let taken = c .before .before .before .before .before .before .before .before .before in
+    let taken = c .before .before .before .before .before .before .before .before .before .before in
     let number = taken .before .before .before .before in
     rw (placed (number .before .before .before .before .args .refusal) (taken .if1 .taken))
-    (joined (number .put-number .ensures) (joined (c .before .before .before .before .before .before .put .ensures) (c .before .before .put-number2 .ensures)))
+    (joined (number .put-number .ensures) (joined (c .before .before .before .before .before .before .before .put .ensures) (c .before .before .put-number2 .ensures)))
 
 same-length-2 : tie.Need-same-length-2
 same-length-2 c = search needs
@@ -68,6 +71,7 @@ put-refusal-spec =
     put-number-requires
     slice-aggregate-put
     put-requires
+    cast-put-number-2
     put-number-requires-2
     same-length
     returns

@@ -43,7 +43,7 @@ slice-aggregate-samples : tie.Need-slice-aggregate-samples
 slice-aggregate-samples c = ap length (sym (c .before .widen .ensures .first))
 
 check-limit-requires : tie.Need-check-limit-requires
-check-limit-requires c κs = search needs
+check-limit-requires c κs = rw (c .before .widen .ensures .first) (few (c .before .before .before))
 
 enum-told-2 : tie.Need-enum-told-2
 enum-told-2 c = search needs

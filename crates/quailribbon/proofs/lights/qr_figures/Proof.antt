@@ -1,7 +1,5 @@
--- A refusal's place fits 32 bits.
+-- What the call below answers, made flat.
 use mathlib.Core.Path.{_∙_, ap}
-use native.Mathlib.Omega.{arith}
-use Rattle.readings.proofs.Places.{figures-place}
 use Rattle.readings.specs.Figures.{saidFigures}
 use Rattle.quailribbon.specs.Flat.{flatFigures}
 use borrow.Author.Needs.{needs}
@@ -12,7 +10,7 @@ figures-requires : tie.Need-figures-requires
 figures-requires c κs = search needs
 
 flat-figures-requires : tie.Need-flat-figures-requires
-flat-figures-requires c κs = let h = figures-place (c .before .before .args .start) (c .before .before .args .step) (c .before .before .args .samples .now) in rw (c .figures .ensures) (omega arith)
+flat-figures-requires c κs = search needs
 
 returns : tie.Need-returns
 returns c = c .flat-figures .ensures ∙ ap (λ r. flatFigures (saidFigures r)) (c .before .figures .ensures)

@@ -1,7 +1,5 @@
--- A refusal's place fits 32 bits.
+-- What the call below answers, made flat.
 use mathlib.Core.Path.{_∙_, ap}
-use native.Mathlib.Omega.{arith}
-use Rattle.readings.proofs.Places.{mesopic-place}
 use Rattle.answers.specs.Said.{saidReading}
 use Rattle.quailribbon.specs.Flat.{flatReading}
 use borrow.Author.Needs.{needs}
@@ -12,7 +10,7 @@ mesopic-requires : tie.Need-mesopic-requires
 mesopic-requires c κs = search needs
 
 flat-reading-requires : tie.Need-flat-reading-requires
-flat-reading-requires c κs = let h = mesopic-place (c .before .before .args .start) (c .before .before .args .step) (c .before .before .args .samples .now) (c .before .before .args .k) in rw (c .mesopic .ensures) (omega arith)
+flat-reading-requires c κs = search needs
 
 returns : tie.Need-returns
 returns c = c .flat-reading .ensures ∙ ap (λ r. flatReading (saidReading r)) (c .before .mesopic .ensures)

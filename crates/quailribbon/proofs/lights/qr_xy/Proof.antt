@@ -1,7 +1,5 @@
--- A refusal's place fits 32 bits.
+-- What the call below answers, made flat.
 use mathlib.Core.Path.{_∙_, ap}
-use native.Mathlib.Omega.{arith}
-use Rattle.readings.proofs.Places.{xy-fits}
 use Rattle.answers.specs.Said.{saidXy}
 use Rattle.quailribbon.specs.Flat.{flatXy}
 use borrow.Author.Needs.{needs}
@@ -12,7 +10,7 @@ xy-requires : tie.Need-xy-requires
 xy-requires c κs = search needs
 
 flat-xy-requires : tie.Need-flat-xy-requires
-flat-xy-requires c κs = let h = xy-fits (c .before .before .args .start) (c .before .before .args .step) (c .before .before .args .samples .now) (c .before .before .args .observer) in rw (c .xy .ensures) (omega arith)
+flat-xy-requires c κs = search needs
 
 returns : tie.Need-returns
 returns c = c .flat-xy .ensures ∙ ap (λ r. flatXy (saidXy r)) (c .before .xy .ensures)

@@ -1,7 +1,5 @@
--- A refusal's place fits 32 bits.
+-- What the call below answers, made flat.
 use mathlib.Core.Path.{_∙_, ap}
-use native.Mathlib.Omega.{arith}
-use Rattle.readings.proofs.Places.{xyz-fits}
 use Rattle.answers.specs.Said.{saidXyz}
 use Rattle.quailribbon.specs.Flat.{flatXyz}
 use borrow.Author.Needs.{needs}
@@ -12,7 +10,7 @@ xyz-requires : tie.Need-xyz-requires
 xyz-requires c κs = search needs
 
 flat-xyz-requires : tie.Need-flat-xyz-requires
-flat-xyz-requires c κs = let h = xyz-fits (c .before .before .args .start) (c .before .before .args .step) (c .before .before .args .samples .now) (c .before .before .args .observer) in rw (c .xyz .ensures) (omega arith)
+flat-xyz-requires c κs = search needs
 
 returns : tie.Need-returns
 returns c = c .flat-xyz .ensures ∙ ap (λ r. flatXyz (saidXyz r)) (c .before .xyz .ensures)

@@ -1,7 +1,6 @@
--- A refusal's place fits 32 bits.
+-- What the call below answers, made flat.
 use mathlib.Core.Path.{_∙_, ap}
-use native.Mathlib.Omega.{arith}
-use Rattle.quailribbon.proofs.PanelPlaces.{chart-fits}
+use Rattle.answers.specs.Said.{saidChart}
 use Rattle.quailribbon.specs.Flat.{flatChart}
 use borrow.Author.Needs.{needs}
 use Rattle.quailribbon.proofs.panels.qr_panel_chart.Statement.{statement}
@@ -11,10 +10,10 @@ panel-chart-requires : tie.Need-panel-chart-requires
 panel-chart-requires c κs = search needs
 
 flat-chart-requires : tie.Need-flat-chart-requires
-flat-chart-requires c κs = let h = chart-fits (c .before .before .args .observer) (c .before .before .args .illuminant) (c .before .before .args .start) (c .before .before .args .step) (c .before .before .args .reflectances .now) in rw (c .panel-chart .ensures) (omega arith)
+flat-chart-requires c κs = search needs
 
 returns : tie.Need-returns
-returns c = c .flat-chart .ensures ∙ ap flatChart (c .before .panel-chart .ensures)
+returns c = c .flat-chart .ensures ∙ ap (λ r. flatChart (saidChart r)) (c .before .panel-chart .ensures)
 
 pub qr-panel-chart-spec : {M : Type 1} → statement M
 qr-panel-chart-spec = tie.close (tie.spec panel-chart-requires flat-chart-requires returns)

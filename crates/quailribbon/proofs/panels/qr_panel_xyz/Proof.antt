@@ -1,7 +1,5 @@
--- A refusal's place fits 32 bits.
+-- What the call below answers, made flat.
 use mathlib.Core.Path.{_∙_, ap}
-use native.Mathlib.Omega.{arith}
-use Rattle.quailribbon.proofs.PanelPlaces.{xyz-fits}
 use Rattle.answers.specs.Said.{saidXyz}
 use Rattle.quailribbon.specs.Flat.{flatXyz}
 use borrow.Author.Needs.{needs}
@@ -12,7 +10,7 @@ panel-xyz-requires : tie.Need-panel-xyz-requires
 panel-xyz-requires c κs = search needs
 
 flat-xyz-requires : tie.Need-flat-xyz-requires
-flat-xyz-requires c κs = let h = xyz-fits (c .before .before .args .observer) (c .before .before .args .illuminant) (c .before .before .args .start) (c .before .before .args .step) (c .before .before .args .reflectances .now) in rw (c .panel-xyz .ensures) (omega arith)
+flat-xyz-requires c κs = search needs
 
 returns : tie.Need-returns
 returns c = c .flat-xyz .ensures ∙ ap (λ r. flatXyz (saidXyz r)) (c .before .panel-xyz .ensures)

@@ -1,8 +1,7 @@
--- Places and counts fit 32 bits.
+-- What the call below answers, made flat.
 use mathlib.Core.Path.{_∙_, ap}
-use lib.ListN.{length}
-use Rattle.quailribbon.proofs.Sizes.{read-small}
-use Rattle.quailribbon.specs.Records.{saidRead, flatRecord}
+use Rattle.record.specs.Said.{saidRead}
+use Rattle.quailribbon.specs.Records.{flatRecord}
 use borrow.Author.Needs.{needs}
 use Rattle.quailribbon.proofs.records.qr_read_record.Statement.{statement}
 use Rattle.quailribbon.proofs.records.qr_read_record.Tie as tie
@@ -11,7 +10,7 @@ read-record-requires : tie.Need-read-record-requires
 read-record-requires c κs = search needs
 
 flat-record-requires : tie.Need-flat-record-requires
-flat-record-requires c κs = rw (c .before .before .read-record .ensures .0) (read-small (c .before .before .before .before .before .before .args .bytes .now) (length (c .before .before .before .before .before .before .args .samples .now)))
+flat-record-requires c κs = search needs
 
 same-length : tie.Need-same-length
 same-length c = search needs

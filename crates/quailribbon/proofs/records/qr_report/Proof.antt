@@ -1,8 +1,8 @@
--- A report's length fits 32 bits.
+-- What the call below answers, made flat.
 use mathlib.Core.Path.{_∙_, ap}
 use lib.ListN.{length}
-use Rattle.quailribbon.proofs.Sizes.{reported-small}
-use Rattle.quailribbon.specs.Records.{saidReported, flatWritten}
+use Rattle.page.specs.Said.{saidReported}
+use Rattle.quailribbon.specs.Records.{flatWritten}
 use borrow.Author.Needs.{needs}
 use Rattle.quailribbon.proofs.records.qr_report.Statement.{statement}
 use Rattle.quailribbon.proofs.records.qr_report.Tie as tie
@@ -11,7 +11,7 @@ write-report-requires : tie.Need-write-report-requires
 write-report-requires c κs = search needs
 
 flat-reported-requires : tie.Need-flat-reported-requires
-flat-reported-requires c κs = rw (c .before .before .write-report .ensures .0) (reported-small (c .before .before .before .before .before .before .args .bytes .now) (length (c .before .before .before .before .before .before .args .text .now)))
+flat-reported-requires c κs = search needs
 
 same-length : tie.Need-same-length
 same-length c = search needs

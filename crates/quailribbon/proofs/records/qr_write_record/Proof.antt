@@ -1,8 +1,7 @@
--- Places and lengths fit 32 bits.
+-- What the call below answers, made flat.
 use mathlib.Core.Path.{_∙_, ap}
-use lib.ListN.{length}
-use Rattle.quailribbon.proofs.Sizes.{written-small}
-use Rattle.quailribbon.specs.Records.{saidWritten, flatWritten}
+use Rattle.record.specs.Said.{saidWritten}
+use Rattle.quailribbon.specs.Records.{flatWritten}
 use borrow.Author.Needs.{needs}
 use Rattle.quailribbon.proofs.records.qr_write_record.Statement.{statement}
 use Rattle.quailribbon.proofs.records.qr_write_record.Tie as tie
@@ -11,7 +10,7 @@ write-record-requires : tie.Need-write-record-requires
 write-record-requires c κs = search needs
 
 flat-written-requires : tie.Need-flat-written-requires
-flat-written-requires c κs = rw (c .before .before .write-record .ensures .0) (written-small (c .before .before .before .before .before .before .args .start) (c .before .before .before .before .before .before .args .step) (c .before .before .before .before .before .before .args .samples .now) (length (c .before .before .before .before .before .before .args .bytes .now)))
+flat-written-requires c κs = search needs
 
 same-length : tie.Need-same-length
 same-length c = search needs

@@ -7,6 +7,7 @@ use native.Mathlib.Omega.{arith}
 use lib.Dec.{lit≤}
 use Rattle.mixing.specs.Nearest.{nearest}
 use Rattle.curves.specs.declared.Curve.the-variants.{YBar}
+use Rattle.answers.specs.Said.{saidReading}
 use Rattle.answers.specs.Worked.{readingFrom}
 use Rattle.readings.specs.Readings.{weighed, illuminanceOf, mesopicOf, mesopicSum, mesopicDivisor}
 use Rattle.readings.proofs.promises.promise_at_thousand.Statement.{statement}
@@ -31,7 +32,7 @@ mesopic a s xs =
     rw same refl
 
 returns : tie.Need-returns
-returns c = record { mesopic = mesopic }
+returns c = record { mesopic = λ a s xs. ap saidReading (mesopic a s xs) }
 
 pub promise-at-thousand-spec : {M : Type 1} → statement M
 promise-at-thousand-spec = tie.close (tie.spec returns)

@@ -2,6 +2,7 @@
 use mathlib.Core.Path.{_≡_, sym, ap, _∙_}
 use mathlib.Core.List.{List, _++_}
 use Prim.Native.Nat.{ℕ}
+use native.Mathlib.Omega.{arith}
 use borrow.Author.Tests.{not-true, not-false, le-leb, lt-leb}
 use lib.ListN.{length, take, drop, replicate}
 use lib.Seq.{take-at}
@@ -79,7 +80,7 @@ slice-aggregate-check-samples : tie.Need-slice-aggregate-check-samples
 slice-aggregate-check-samples c = sym (unpacked-length (c .before .before))
 
 check-samples-requires : tie.Need-check-samples-requires
-check-samples-requires c κs = search needs
+check-samples-requires c κs = omega (arith, unpacked-length (c .before .before), begin (c .before .before) .pre .1)
 
 enum-known-refusal : tie.Need-enum-known-refusal
 enum-known-refusal c = search needs

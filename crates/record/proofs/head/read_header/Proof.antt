@@ -66,8 +66,8 @@ add-start c = search needs
 step-of-requires : tie.Need-step-of-requires
 step-of-requires c κs = search needs
 
-cast-count : tie.Need-cast-count
-cast-count c = search needs
+cast-check-grid : tie.Need-cast-check-grid
+cast-check-grid c = search needs
 
 check-grid-requires : tie.Need-check-grid-requires
 check-grid-requires c κs = search needs
@@ -103,7 +103,7 @@ read-header-spec =
     returns-3
     add-start
     step-of-requires
-    cast-count
+    cast-check-grid
     check-grid-requires
     enum-told
     enum-known-refusal

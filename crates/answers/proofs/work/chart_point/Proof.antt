@@ -1,0 +1,17 @@
+-- Each coordinate is the float of its hundred-thousandths.
+use borrow.Author.Needs.{needs}
+use Rattle.answers.proofs.work.chart_point.Statement.{statement}
+use Rattle.answers.proofs.work.chart_point.Tie as tie
+
+coordinate-float-requires : tie.Need-coordinate-float-requires
+coordinate-float-requires c κs = search needs
+
+coordinate-float-requires-2 : tie.Need-coordinate-float-requires-2
+coordinate-float-requires-2 c κs = search needs
+
+returns : tie.Need-returns
+returns c = rw (c .before .coordinate-float .ensures, c .coordinate-float2 .ensures)
+
+pub chart-point-spec : {M : Type 1} → statement M
+chart-point-spec =
+    tie.close (tie.spec coordinate-float-requires coordinate-float-requires-2 returns)

@@ -1,0 +1,23 @@
+-- The paper's number, place and values of an answer: what any answer says, whatever type it has.
+use mathlib.Core.List.{List, []}
+use Prim.Native.Nat.{ℕ}
+use lib.ListN.{getD}
+use lib.Ieee.{Float}
+use Rattle.grid.specs.declared.Refusal.{Refusal}
+
+-- number 0 where values are given, else the refusal's number and place, and no values
+pub record Said : Type 0 where
+  pub number : ℕ
+  pub place : ℕ
+  pub values : List ℕ
+  pub floats : List Float
+
+-- the value at a place, 0 where there is none
+abbrev pub value : Said → ℕ → ℕ
+value said i = getD (said .values) i 0
+
+abbrev pub given : List ℕ → List Float → Said
+given vs fs = record { number = 0; place = 0; values = vs; floats = fs }
+
+abbrev pub refusedWith : Refusal → Said
+refusedWith r = record { number = r .number; place = r .place; values = []; floats = [] }
