@@ -5,6 +5,7 @@ use mathlib.Core.List.{List, [], _∷_}
 use Prim.Native.Nat.{ℕ, zero, suc, _+_, _≤_, _<_, zero-le}
 use native.Mathlib.Nat.{add-zero, add-suc, suc-add}
 use native.Mathlib.Omega.{arith}
+use borrow.Author.Count.{below-more}
 use borrow.Author.Tests.{leb-true, le-leb, lt-leb}
 use lib.ListN.{length, getD}
 use lib.Dec.{leb}
@@ -47,3 +48,23 @@ module _ (number limit : ℕ) where
   first-fault place (x ∷ xs) (suc i) h b f =
       rw (le-leb x limit (b 0 (omega arith)), add-suc, ← suc-add)
       (first-fault (suc place) xs i (omega arith) (λ k l. b (suc k) (omega arith)) f)
+
+-- a pass over a row with no way out: as long as it holds, no sample passed is above the limit
+pub record NoFaultTo (limit : ℕ) (xs : List ℕ) (holds : Bool) (k : ℕ) : Type 0 where
+  pub in-row : k ≤ length xs
+  pub none : holds ≡ true → (j : ℕ) → j < k → getD xs j 0 ≤ limit
+
+module _ (limit : ℕ) (xs : List ℕ) where
+  pub no-fault-yet : (holds : Bool) → NoFaultTo limit xs holds 0
+  no-fault-yet holds = record { in-row = zero-le; none = λ e j l. absurd (omega arith) }
+
+  pub no-fault-more :
+      (before after : Bool) (k : ℕ) → NoFaultTo limit xs before k → k < length xs →
+      (after ≡ true → (before ≡ true) × (getD xs k 0 ≤ limit)) → NoFaultTo limit xs after (k + 1)
+  no-fault-more before after k so-far l kept = record {
+    in-row = omega arith;
+    none = λ e. below-more (λ j. getD xs j 0 ≤ limit) k (so-far .none (kept e .0)) (kept e .1);
+  }
+
+  pub no-fault-all : (holds : Bool) (k : ℕ) → NoFaultTo limit xs holds k → length xs ≤ k → holds ≡ true → Within limit xs
+  no-fault-all holds k so-far l e = within-row limit xs (λ j h. so-far .none e j (omega arith))

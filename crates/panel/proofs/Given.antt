@@ -25,7 +25,7 @@ use Rattle.panel.specs.Panel.{illuminantOf, panelCheck, litBy, whiteSum,
 use Rattle.panel.specs.Promises.{xyz}
 use Rattle.panel.proofs.Computed.{lit-small}
 use Rattle.panel.proofs.Surface.{surface-fine, on-grid}
-use Rattle.panel.proofs.Sized.{white-some, panel-bound}
+use Rattle.panel.proofs.Sized.{white-some, surface-sized, panel-bound}
 
 module _ (o i a s : ℕ) (rs : List ℕ) (fine : panelCheck o i a s rs ≡ Fine) where
   pub divisor-some : 0 < s * whiteSum o i
@@ -38,7 +38,7 @@ module _ (o i a s : ℕ) (rs : List ℕ) (fine : panelCheck o i a s rs ≡ Fine)
   fits : (c : Curve) → nearest (10 * W (litBy (illuminantOf i) c) a s rs) (s * whiteSum o i) ≤ 4294967295
   fits c =
       let v = litBy (illuminantOf i) c in
-      let x : W v a s rs ≤ s * 10000 * total 471 v = panel-bound a s rs (surface-fine o i a s rs fine) v in
+      let x : W v a s rs ≤ s * 10000 * total 471 v = panel-bound a s rs (surface-sized a s rs (surface-fine o i a s rs fine)) v in
       let y : s * 10000 * total 471 v ≤ s * 10000 * 52320400000000000000000 = mul-le-mul-left (s * 10000) (lit-small (eqb i 2) c) in
       let z : s * 10500000000000000000000 ≤ s * whiteSum o i = mul-le-mul-left s (white-some o i) in
       let n = nearest-bound 500000 (10 * W v a s rs) (s * whiteSum o i) (omega arith) in

@@ -8,10 +8,7 @@ use Rattle.grid.specs.declared.Check.the-variants.{Fine, Refused}
 use Rattle.grid.specs.Check.{isObserver, gridCheck, reflectancesCheck, unless, require, refusal, Within}
 use Rattle.grid.proofs.Limit.{passed, fine-within}
 use Rattle.grid.proofs.Accepted.{OnGrid, accepted}
-use Rattle.curves.specs.Split.{Reflected}
-use Rattle.spectrum.specs.Line.{rowOf}
 use Rattle.grid.proofs.Light.{both-fine}
-use Rattle.spectrum.proofs.Light.{row-within}
 use Rattle.panel.specs.Panel.{isIlluminant, settingCheck, surfaceCheck, panelCheck}
 
 -- the setting and the grid are checked first, and then the reflectances
@@ -54,6 +51,3 @@ module _ (a s : ℕ) (rs : List ℕ) (fine : surfaceCheck a s rs ≡ Fine) where
 
   pub on-grid : OnGrid a s (length rs)
   on-grid = accepted a s (length rs) grid-fine
-
-  pub row-small : Reflected (rowOf a s rs)
-  row-small = row-within a s 10000 rs on-grid within

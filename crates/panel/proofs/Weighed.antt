@@ -1,11 +1,10 @@
--- The two parts of illuminant times T, each weighed, are joined to the panel's sums.
+-- The two parts of illuminant times T, each weighed, are joined to the panel's sums; and those of a part of its row are the panel's.
 use mathlib.Core.Path.{_≡_, _∙_}
 use mathlib.Core.List.{List}
 use Prim.Native.Nat.{ℕ, _*_}
 use native.Mathlib.Nat.{mod-eq-of-lt, mul-comm, mul-assoc, mul-left-comm}
 use native.Mathlib.Omega.{arith}
-use lib.ListN.{getD}
-use Rattle.grid.specs.declared.Check.the-variants.{Fine}
+use lib.ListN.{length, getD}
 use Rattle.mixing.specs.Sum.{weighted}
 use Rattle.mixing.proofs.Sum.{total-ext}
 use Rattle.curves.specs.declared.Curve.{Curve}
@@ -14,12 +13,16 @@ use Rattle.curves.specs.declared.weigh.Sums.{Sums}
 use Rattle.curves.specs.Curves.{table, weightOf}
 use Rattle.curves.specs.Split.{SplitOf, splitSum, SplitSums}
 use Rattle.curves.proofs.Split.{split-weighed}
+use Rattle.grid.proofs.Accepted.{OnGrid}
 use Rattle.spectrum.specs.Line.{rowOf, W}
+use Rattle.spectrum.specs.Begin.{Begins}
+use Rattle.spectrum.specs.declared.line.Begin.{Begin}
 use Rattle.spectrum.proofs.Light.{row-weighed}
+use Rattle.spectrum.proofs.Begin.{partFrom, W-begun}
 use Rattle.answers.specs.Sums.{ofObserver}
-use Rattle.panel.specs.Panel.{illuminantOf, surfaceCheck, litBy}
+use Rattle.panel.specs.Panel.{illuminantOf, litBy}
 use Rattle.panel.specs.Sums.{PanelSums}
-use Rattle.panel.proofs.Sized.{sum-small}
+use Rattle.panel.proofs.Sized.{Sized, sum-small}
 
 -- the illuminant may stand with the row or with the curve
 lit-weighed :
@@ -36,7 +39,7 @@ lit-weighed illuminant c a s rs =
     go x y z = simp (mul-comm, mul-assoc, mul-left-comm)
 
 module _
-    (i a s : ℕ) (rs : List ℕ) (fine : surfaceCheck a s rs ≡ Fine) (high low : List ℕ)
+    (i a s : ℕ) (rs : List ℕ) (sized : Sized s rs) (high low : List ℕ)
     (parts : SplitOf (table (illuminantOf i)) (rowOf a s rs) high low)
   where
     -- the two rows, weighed by a curve and joined, are the panel's sum
@@ -45,7 +48,7 @@ module _
         let e =
         split-weighed (table (illuminantOf i)) (rowOf a s rs) high low parts (weightOf c) ∙ lit-weighed (illuminantOf i) c a s rs
         in
-        let small = sum-small a s rs fine i c in
+        let small = sum-small a s rs sized i c in
         mod-eq-of-lt (rw e (omega arith)) ∙ e
 
     pub panel-sums :
@@ -57,3 +60,13 @@ module _
       y = is .y ∙ joined-sum (ofObserver o YBar YBar10);
       z = is .z ∙ joined-sum (ofObserver o ZBar ZBar10);
     }
+
+-- summed over the part that begins at or just below 360, they are the panel's
+pub panel-begun :
+    (a s : ℕ) (rs : List ℕ) (on : OnGrid a s (length rs)) (b : Begin) → Begins a s b → (o i : ℕ) (sums : Sums) →
+    PanelSums o i (b .wavelength) s (partFrom (b .place) rs) sums → PanelSums o i a s rs sums
+panel-begun a s rs on b is o i sums part = record {
+  x = part .x ∙ W-begun a s rs on b is (litBy (illuminantOf i) (ofObserver o XBar XBar10));
+  y = part .y ∙ W-begun a s rs on b is (litBy (illuminantOf i) (ofObserver o YBar YBar10));
+  z = part .z ∙ W-begun a s rs on b is (litBy (illuminantOf i) (ofObserver o ZBar ZBar10));
+}

@@ -14,7 +14,7 @@ use Rattle.panel.specs.declared.sums.SumsAnswer.{SumsAnswer}
 use Rattle.panel.specs.Panel.{panelCheck, whiteSum, xSum, ySum, zSum}
 use Rattle.panel.specs.Sums.{PanelSums, SumsOf}
 use Rattle.panel.proofs.Surface.{surface-fine, on-grid}
-use Rattle.panel.proofs.Sized.{colour-small}
+use Rattle.panel.proofs.Sized.{surface-sized, colour-small}
 
 module _ (o i a s : ℕ) (rs : List ℕ) (answer : SumsAnswer) (is : SumsOf o i a s rs answer) where
   pub refused : (r : Refusal) → answer ≡ SumsAnswer.Refused r → panelCheck o i a s rs ≡ Check.Refused r
@@ -34,7 +34,7 @@ module _ (o i a s : ℕ) (rs : List ℕ) (answer : SumsAnswer) (is : SumsOf o i 
     step-small = on-grid a s rs (surface-fine o i a s rs fine) .step-high
 
     pub total-small : short (sums .x) + short (sums .y) + short (sums .z) < 2 ^ 96
-    total-small = rw (sums-are .x, sums-are .y, sums-are .z) (colour-small a s rs (surface-fine o i a s rs fine) o i)
+    total-small = rw (sums-are .x, sums-are .y, sums-are .z) (colour-small a s rs (surface-sized a s rs (surface-fine o i a s rs fine)) o i)
 
     pub xyz-worked :
         (d : ℕ) → d ≡ s * whiteSum o i →

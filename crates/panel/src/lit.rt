@@ -1,23 +1,29 @@
-// The three sums of an accepted panel: illuminant times T, weighed by the observer's curves.
+// The three sums of an accepted panel: illuminant times T, weighed by the observer's curves. The summing is lent the part
+// of the row that begins at the reflectance at or just below 360 nm.
+use crate::reflectances::widen;
 use curves::lit::lit_by_a;
 use curves::lit::lit_by_d65;
 use curves::lit::sums_2;
 use curves::lit::sums_10;
 use curves::weigh::Sums;
-use spectrum::line::row_of;
+use spectrum::line::row_from;
 ghost use mathlib.Core.Path.{_≡_};
 ghost use lib.ListN.{length};
-ghost use Rattle.grid.specs.declared.Check.the-variants.{Fine};
 ghost use Rattle.curves.specs.Curves.{table};
 ghost use Rattle.curves.specs.Split.{Reflected, SplitOf};
-ghost use Rattle.panel.specs.Panel.{illuminantOf, surfaceCheck};
+ghost use Rattle.spectrum.specs.Begin.{Begun};
+ghost use Rattle.panel.specs.Panel.{illuminantOf};
 ghost use Rattle.panel.specs.Sums.{PanelSums};
 
-pub fn lit_sums(observer: u32, illuminant: u32, start: u32, step: u32, reflectances: &[u32]) -> Sums
-    requires { ⌜ surfaceCheck start step (now reflectances) ≡ Fine ⌝ }
-    ensures { λ r. ⌜ PanelSums observer illuminant start step (now (reflectances .entry)) r ⌝ }
+// The part is widened to samples, so that it shares their line.
+pub fn lit_sums(observer: u32, illuminant: u32, first: u32, step: u32, part: &[u16]) -> Sums
+    requires { ⌜ Begun 10000 first step (now part) ⌝ }
+    ensures { λ r. ⌜ PanelSums observer illuminant first step (now (part .entry)) r ⌝ }
 {
-    let row = row_of(start, step, reflectances);
+    let count = part.len();
+    let mut wide = [0u32; 531];
+    widen(part, &mut wide);
+    let row = row_from(first, step, &wide[..count]);
     let mut high = [0u64; 471];
     let mut low = [0u64; 471];
     lit(illuminant, &row, &mut high, &mut low);

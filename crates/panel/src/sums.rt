@@ -1,13 +1,13 @@
 // The three sums of a panel, or its first refusal.
 use crate::lit::lit_sums;
-use crate::reflectances::widen;
+use crate::reflectances::check_reflectances;
 use curves::weigh::Sums;
 use grid::Check;
 use grid::Refusal;
 use grid::check_grid;
-use grid::check_limit;
 use grid::is_observer;
 use grid::refused;
+use spectrum::line::begin_at_360;
 ghost use mathlib.Core.Path.{_≡_};
 ghost use Rattle.panel.specs.Panel.{isIlluminant, settingCheck};
 ghost use Rattle.panel.specs.Sums.{SumsOf};
@@ -17,7 +17,6 @@ pub enum SumsAnswer {
     Refused(Refusal),
 }
 
-// The reflectances are widened to samples once, so they share the samples' check and line.
 pub fn panel_sums(
     observer: u32,
     illuminant: u32,
@@ -27,22 +26,22 @@ pub fn panel_sums(
 ) -> SumsAnswer
     ensures { λ r. ⌜ SumsOf observer illuminant start step (now (reflectances .entry)) r ⌝ }
 {
-    let count = reflectances.len();
-    let setting = check_setting(observer, illuminant, start, step, count);
+    let setting = check_setting(observer, illuminant, start, step, reflectances.len());
     match setting {
         Check::Fine => {
-            let mut wide = [0u32; 531];
-            widen(reflectances, &mut wide);
-            let samples = &wide[..count];
-            let limit = check_limit(8, 10000, samples);
+            let limit = check_reflectances(reflectances);
             match limit {
-                Check::Fine => SumsAnswer::Given(lit_sums(
-                    observer,
-                    illuminant,
-                    start,
-                    step,
-                    samples,
-                )),
+                Check::Fine => {
+                    let begin = begin_at_360(start, step);
+                    let j = begin.place;
+                    SumsAnswer::Given(lit_sums(
+                        observer,
+                        illuminant,
+                        begin.wavelength,
+                        step,
+                        &reflectances[j..],
+                    ))
+                }
                 Check::Refused(refusal) => SumsAnswer::Refused(refusal),
             }
         }

@@ -1,6 +1,7 @@
 -- Laws of readings.
 pub mod Small
 pub mod LightSums
+pub mod Part
 pub mod Together
 pub mod Instances
 pub mod Unlit

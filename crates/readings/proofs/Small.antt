@@ -12,13 +12,17 @@ use Rattle.curves.specs.declared.Curve.the-variants.{XBar, YBar, ZBar, XBar10, 
 use Rattle.curves.proofs.Sums.{light-sum}
 use Rattle.grid.specs.Check.{lightCheck}
 use Rattle.spectrum.specs.Line.{rowOf}
-use Rattle.spectrum.proofs.Light.{row-small, row-weighed}
+use Rattle.spectrum.specs.Begin.{Begun}
+use Rattle.spectrum.proofs.Light.{row-small, begun-small, row-weighed}
 use Rattle.answers.specs.Sums.{ofObserver}
 use Rattle.readings.specs.Readings.{weighed, colourCheck, xSum, ySum, zSum}
 
 -- a colour that is accepted is one of an accepted light
 pub colour-fine : (o a s : ℕ) (xs : List ℕ) → colourCheck o a s xs ≡ Fine → lightCheck a s xs ≡ Fine
 colour-fine o a s xs fine = passed (isObserver o) (lightCheck a s xs) (refusal 6 0) fine .1
+
+pub begun-sum-small : (a s : ℕ) (xs : List ℕ) → Begun 1000000 a s xs → (c : Curve) → weighed c a s xs ≤ 20000000000000000000000
+begun-sum-small a s xs begun c = rw row-weighed at (light-sum c (rowOf a s xs) (begun-small 1000000 a s xs begun))
 
 module _ (a s : ℕ) (xs : List ℕ) (fine : lightCheck a s xs ≡ Fine) where
   pub sum-small : (c : Curve) → weighed c a s xs ≤ 20000000000000000000000

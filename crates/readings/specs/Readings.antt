@@ -40,9 +40,13 @@ photopic10Of a s xs = illuminanceOf YBar10 684 a s xs
 abbrev pub mesopicCheck : ℕ → ℕ → ℕ → List ℕ → Check
 mesopicCheck k a s xs = require (leb k 1000) 5 (lightCheck a s xs)
 
+-- k · W(V) + (1000 - k) · W(V′)
+abbrev pub mesopicWeighed : ℕ → ℕ → ℕ → List ℕ → ℕ
+mesopicWeighed k a s xs = k * weighed YBar a s xs + (1000 - k) * weighed VPrime a s xs
+
 -- 683000 (k · W(V) + (1000 - k) · W(V′))
 abbrev pub mesopicSum : ℕ → ℕ → ℕ → List ℕ → ℕ
-mesopicSum k a s xs = 683000 * (k * weighed YBar a s xs + (1000 - k) * weighed VPrime a s xs)
+mesopicSum k a s xs = 683000 * mesopicWeighed k a s xs
 
 -- over s · 10^16 · (1000 k + 402 (1000 - k))
 abbrev pub mesopicDivisor : ℕ → ℕ → ℕ

@@ -1,9 +1,9 @@
 // X, Y, Z, the coordinates x and y, and the chart's point of a light, all from the same three exact sums.
 use crate::scale;
+use crate::sums::colour_sums;
 use answers::ChartAnswer;
 use answers::XyAnswer;
 use answers::XyzAnswer;
-use answers::sums::row_sums;
 use answers::work::on_chart;
 use answers::work::xy_from;
 use answers::work::xyz_from;
@@ -12,7 +12,7 @@ use grid::Check;
 use grid::check_light;
 use grid::is_observer;
 use grid::refused;
-use spectrum::line::row_of;
+use spectrum::line::begin_at_360;
 ghost use mathlib.Core.Path.{_≡_};
 ghost use Rattle.grid.specs.declared.Check.the-variants.{Fine};
 ghost use Rattle.grid.specs.Check.{lightCheck};
@@ -84,6 +84,7 @@ fn light_sums(observer: u32, start: u32, step: u32, samples: &[u32]) -> Sums
     requires { ⌜ lightCheck start step (now samples) ≡ Fine ⌝ }
     ensures { λ r. ⌜ LightSums observer start step (now (samples .entry)) r ⌝ }
 {
-    let row = row_of(start, step, samples);
-    row_sums(observer, &row)
+    let begin = begin_at_360(start, step);
+    let j = begin.place;
+    colour_sums(observer, begin.wavelength, step, &samples[j..])
 }

@@ -2,18 +2,20 @@
 pub mod colour;
 pub mod promises;
 pub mod report;
+mod sums;
 
+use crate::sums::mesopic_weighed;
+use crate::sums::weighed;
 use answers::Reading;
 use answers::work::reading_from;
 use curves::Curve;
-use curves::weigh::weigh;
 use exact::digits::Short;
 use exact::digits::joined;
 use exact::digits::short_times_plus;
 use grid::Check;
 use grid::Refusal;
 use grid::check_light;
-use spectrum::line::row_of;
+use spectrum::line::begin_at_360;
 ghost use mathlib.Core.Path.{_≡_};
 ghost use Prim.Native.Nat.{_+_, _*_, _-_, _^_, _≤_};
 ghost use Rattle.exact.specs.Value.{short};
@@ -49,8 +51,10 @@ fn illuminance(curve: Curve, efficacy: u32, start: u32, step: u32, samples: &[u3
     let check = check_light(start, step, samples);
     match check {
         Check::Fine => {
-            let row = row_of(start, step, samples);
-            reading_from(weigh(curve, &row), efficacy, scale(step))
+            let begin = begin_at_360(start, step);
+            let j = begin.place;
+            let sum = weighed(curve, begin.wavelength, step, &samples[j..]);
+            reading_from(sum, efficacy, scale(step))
         }
         Check::Refused(refusal) => Reading::Refused(refusal),
     }
@@ -85,10 +89,13 @@ fn mesopic_of_light(k: u32, start: u32, step: u32, samples: &[u32]) -> Reading
     requires { ⌜ (k ≤ 1000) × (lightCheck start step (now samples) ≡ Fine) ⌝ }
     ensures { λ r. ⌜ r ≡ readingFrom (mesopicSum k start step (now (samples .entry))) (mesopicDivisor k step) ⌝ }
 {
-    let row = row_of(start, step, samples);
-    let none = joined(0, 0);
-    let night = short_times_plus(weigh(Curve::VPrime, &row), 1000 - k, none);
-    let sum = short_times_plus(weigh(Curve::YBar, &row), k, night);
-    let divisor = short_times_plus(scale(step), 1000 * k + 402 * (1000 - k), none);
-    reading_from(sum, 683000, divisor)
+    let begin = begin_at_360(start, step);
+    let j = begin.place;
+    let sum = mesopic_weighed(k, begin.wavelength, step, &samples[j..]);
+    let bracket = 1000 * k + 402 * (1000 - k);
+    reading_from(
+        sum,
+        683000,
+        short_times_plus(scale(step), bracket, joined(0, 0)),
+    )
 }

@@ -1,21 +1,19 @@
 // The figures of the report, at observer 2, in one call: the row is laid once, and each sum is made once.
 use crate::scale;
+use crate::sums::FigureSums;
+use crate::sums::figure_sums;
 use answers::Reading;
 use answers::XyAnswer;
 use answers::Xyz;
 use answers::XyzAnswer;
-use answers::sums::row_sums;
 use answers::work::reading_from;
 use answers::work::xy_from;
 use answers::work::xyz_from;
-use curves::Curve;
-use curves::weigh::Sums;
-use curves::weigh::weigh;
 use exact::digits::Short;
 use grid::Check;
 use grid::Refusal;
 use grid::check_light;
-use spectrum::line::row_of;
+use spectrum::line::begin_at_360;
 ghost use mathlib.Core.Path.{_≡_};
 ghost use Prim.Native.Nat.{_+_, _*_, _^_, _<_};
 ghost use Rattle.exact.specs.Value.{short};
@@ -43,19 +41,25 @@ pub fn figures(start: u32, step: u32, samples: &[u32]) -> FiguresAnswer
     let check = check_light(start, step, samples);
     match check {
         Check::Fine => {
-            let row = row_of(start, step, samples);
-            figures_from(row_sums(2, &row), weigh(Curve::VPrime, &row), scale(step))
+            let begin = begin_at_360(start, step);
+            let j = begin.place;
+            figures_from(
+                figure_sums(begin.wavelength, step, &samples[j..]),
+                scale(step),
+            )
         }
         Check::Refused(refusal) => FiguresAnswer::Refused(refusal),
     }
 }
 
-// From the three colour sums, the scotopic one and the divisor. Photopic is Y, which is not divided twice.
-fn figures_from(sums: Sums, night: Short, divisor: Short) -> FiguresAnswer
-    requires { ⌜ short (sums .x) + short (sums .y) + short (sums .z) < 2 ^ 96 ⌝ }
-    ensures { λ r. ⌜ r ≡ together (readingFrom (683 * short (sums .y)) (short divisor)) (readingFrom (1700 * short night) (short divisor)) (xyzFrom (683 * short (sums .x)) (683 * short (sums .y)) (683 * short (sums .z)) (short divisor)) (xyFrom (short (sums .x)) (short (sums .y)) (short (sums .z))) ⌝ }
+// From the four sums and the divisor. Photopic is Y, which is not divided twice.
+fn figures_from(sums: FigureSums, divisor: Short) -> FiguresAnswer
+    requires { ⌜ short (sums .colour .x) + short (sums .colour .y) + short (sums .colour .z) < 2 ^ 96 ⌝ }
+    ensures { λ r. ⌜ r ≡ together (readingFrom (683 * short (sums .colour .y)) (short divisor)) (readingFrom (1700 * short (sums .night)) (short divisor)) (xyzFrom (683 * short (sums .colour .x)) (683 * short (sums .colour .y)) (683 * short (sums .colour .z)) (short divisor)) (xyFrom (short (sums .colour .x)) (short (sums .colour .y)) (short (sums .colour .z))) ⌝ }
 {
-    let xyz = xyz_from(sums, 683, divisor);
+    let colour = sums.colour;
+    let night = sums.night;
+    let xyz = xyz_from(colour, 683, divisor);
     let scotopic = reading_from(night, 1700, divisor);
     match xyz {
         XyzAnswer::Value(v) => match scotopic {
@@ -63,7 +67,7 @@ fn figures_from(sums: Sums, night: Short, divisor: Short) -> FiguresAnswer
                 photopic: v.y,
                 scotopic: q,
                 xyz: v,
-                xy: xy_from(sums),
+                xy: xy_from(colour),
             }),
             Reading::Refused(refusal) => FiguresAnswer::Refused(refusal),
         },

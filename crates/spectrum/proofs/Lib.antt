@@ -2,3 +2,4 @@
 pub mod Measured
 pub mod Lay
 pub mod Light
+pub mod Begin

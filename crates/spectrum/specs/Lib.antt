@@ -1,2 +1,3 @@
 -- Definitions of the crate `spectrum`.
 pub mod Line
+pub mod Begin

@@ -2,23 +2,24 @@
 ghost use mathlib.Core.Path.{_≡_};
 ghost use Prim.Native.Nat.{_+_, _*_, _-_, _/_, _^_, _<_, _≤_};
 ghost use lib.ListN.{length, getD};
-ghost use Rattle.grid.specs.declared.Check.the-variants.{Fine};
-ghost use Rattle.grid.specs.Check.{gridCheck};
 ghost use Rattle.spectrum.specs.Line.{rowOf, Part, Unmeasured};
+ghost use Rattle.spectrum.specs.Begin.{Begins};
 
-// The samples below 360 nm that no line reaches are left out: the rest begins at the sample at or just below 360.
-pub fn row_of(start: u32, step: u32, samples: &[u32]) -> [u64; 471]
-    requires { ⌜ gridCheck start step (length (now samples)) ≡ Fine ⌝ }
-    ensures { λ r. ⌜ r ≡ rowOf start step (now (samples .entry)) ⌝ }
+// Where the part of a row that carries weight begins: at the sample at or just below 360 nm, or at the first one.
+pub struct Begin {
+    pub place: usize,
+    pub wavelength: u32,
+}
+
+// Looks for 360 nm in a row.
+pub fn begin_at_360(start: u32, step: u32) -> Begin
+    requires { ⌜ (0 < step) × (start ≤ 380) ⌝ }
+    ensures { λ r. ⌜ Begins start step r ⌝ }
 {
     let j = steps_to_360(start, step);
-    let from = j as usize;
-    let first = start + step * j;
-    let part = &samples[from..];
-    if step == 1 {
-        copied(first, part)
-    } else {
-        walked(first, step, part)
+    Begin {
+        place: j as usize,
+        wavelength: start + step * j,
     }
 }
 
@@ -28,6 +29,18 @@ fn steps_to_360(start: u32, step: u32) -> u32
     ensures { λ r. ⌜ r ≡ (360 - start) / step ⌝ }
 {
     if 360 < start { 0 } else { (360 - start) / step }
+}
+
+// The row of a part that begins there.
+pub fn row_from(first: u32, step: u32, part: &[u32]) -> [u64; 471]
+    requires { ⌜ Part first step (length (now part)) ⌝ }
+    ensures { λ r. ⌜ r ≡ rowOf first step (now (part .entry)) ⌝ }
+{
+    if step == 1 {
+        copied(first, part)
+    } else {
+        walked(first, step, part)
+    }
 }
 
 // The place of a wavelength in the row; 0 where it is below 360.

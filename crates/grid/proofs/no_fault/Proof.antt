@@ -1,24 +1,22 @@
--- The loop's invariant: where `fine` still holds, no sample passed is above the limit.
-use Prim.Native.Nat.{ℕ, _-_, _≤_, _<_}
+-- The loop's invariant: as long as `fine` holds, no sample passed is above the limit.
+use Prim.Native.Nat.{ℕ, _-_}
 use mathlib.Core.Path.{_≡_, sym, _∙_}
-use mathlib.Core.Bool.{true}
 use mathlib.Core.Logic.{⊎-elim}
-use borrow.Author.Count.{below-more}
 use borrow.Author.Needs.{needs}
 use native.Mathlib.Omega.{arith}
-use lib.ListN.{length, getD}
-use Rattle.grid.proofs.Limit.{within-row}
+use lib.ListN.{length}
+use Rattle.grid.proofs.Limit.{NoFaultTo, no-fault-yet, no-fault-more, no-fault-all}
 use Rattle.grid.proofs.no_fault.Statement.{statement}
 use Rattle.grid.proofs.no_fault.Tie as tie
 
 abbrev Inv-loop : tie.InvT-loop
-Inv-loop limit samples fine₀ k₀ k-end fine k = (k ≤ length samples) × (fine ≡ true → (j : ℕ) → j < k → getD samples j 0 ≤ limit)
+Inv-loop limit samples fine₀ k₀ k-end fine k = NoFaultTo limit samples fine k
 
 abbrev μ-loop : tie.MeasureT-loop
 μ-loop limit samples fine₀ k₀ k-end fine k = length samples - k
 
 loop-holds : tie.Need-loop-holds Inv-loop μ-loop
-loop-holds c = (omega arith, λ e j l. absurd (omega arith))
+loop-holds c = no-fault-yet (c .args .limit) (c .args .samples .now) _
 
 mul-if1 : tie.Need-mul-if1 Inv-loop μ-loop
 mul-if1 c = search needs
@@ -33,17 +31,18 @@ loop-less : tie.Need-loop-less Inv-loop μ-loop
 loop-less c = omega arith
 
 loop-again : tie.Need-loop-again Inv-loop μ-loop
-loop-again c = (
-  omega arith,
-  λ e.
-      ⊎-elim (λ w. absurd (let z : _≡_ {A = ℕ} 0 1 = cc (w .1) in omega arith))
-      (λ w. below-more (λ j. getD (c .before .before .before .before .args .samples .now) j 0 ≤ c .before .before .before .before .args .limit) (c .before .before .before .loop .k) (c .before .before .before .loop .inv .1 (sym (w .1) ∙ e)) (w .0 .left))
-      (c .if1 .came),
-)
+loop-again c =
+    let turn = c .before .before .before in
+    let s = turn .before .args in
+    no-fault-more (s .limit) (s .samples .now) (turn .loop .fine) _ (turn .loop .k) (turn .loop .inv) (omega arith)
+    (λ e.
+    ⊎-elim (λ w. absurd (let z : _≡_ {A = ℕ} 0 1 = cc (w .1) in omega arith)) (λ w. (sym (w .1) ∙ e, w .0 .left)) (c .if1 .came))
 
 returns : tie.Need-returns Inv-loop μ-loop
 returns c =
-    λ e. within-row (c .before .before .args .limit) (c .before .before .args .samples .now) (λ k l. c .before .loop .inv .1 e k (omega arith))
+    let s = c .before .before .args in
+    let turn = c .before .loop in
+    no-fault-all (s .limit) (s .samples .now) (turn .fine) (turn .k) (turn .inv) (omega arith)
 
 pub no-fault-spec : {M : Type 1} → statement M
 no-fault-spec =

@@ -1,113 +1,107 @@
--- Neither the sum nor the divisor passes 96 bits.
+-- The sum over the part is the light's, and the divisor passes no 96 bits.
 use mathlib.Core.Path.{_≡_, _∙_}
-use Prim.Native.Nat.{ℕ, _+_, _*_, _-_, _^_}
+use Prim.Native.Nat.{_+_, _*_, _-_, _^_, _≤_}
 use native.Mathlib.Nat.{mul-comm}
 use native.Mathlib.Omega.{arith}
+use lib.ListN.{length}
 use Rattle.exact.specs.Value.{short}
 use Rattle.curves.specs.declared.Curve.the-variants.{YBar, VPrime}
-use Rattle.grid.proofs.Light.{grid-fine, on-grid}
-use Rattle.spectrum.proofs.Light.{row-small, row-weighed}
-use Rattle.readings.specs.Readings.{weighed, mesopicDivisor}
-use Rattle.readings.proofs.Small.{sum-small, mesopic-sum-kept, mesopic-divisor-kept}
+use Rattle.grid.proofs.Light.{on-grid}
+use Rattle.readings.specs.Readings.{mesopicWeighed, mesopicDivisor}
+use Rattle.readings.proofs.Small.{mesopic-divisor-kept}
+use Rattle.readings.proofs.Part.{sought, few, begun, weighed-begun}
 use borrow.Author.Needs.{needs}
 use Rattle.readings.proofs.mesopic_of_light.Statement.{statement}
 use Rattle.readings.proofs.mesopic_of_light.Tie as tie
 
-abbrev k : (c : tie.Start) → ℕ
-k c = c .args .k
+-- where 360 was looked for: the place found lies in the row
+in-row : (c : tie.After-begin-at-360) → c .begin-at-360 .result .place ≤ length (c .before .before .args .samples .now)
+in-row c = let s = c .before .before in few (s .args .start) (s .args .step) (s .args .samples .now) (s .pre .1) (c .begin-at-360 .result) (c .begin-at-360 .ensures)
 
-sum-is :
-    (c : tie.After-short-times-plus2) →
-    short (c .short-times-plus2 .result) ≡ k (c .before .before .before .before .before .before .before .before .before) * weighed YBar (c .before .before .before .before .before .before .before .before .before .args .start) (c .before .before .before .before .before .before .before .before .before .args .step) (c .before .before .before .before .before .before .before .before .before .args .samples .now) + (1000 - k (c .before .before .before .before .before .before .before .before .before)) * weighed VPrime (c .before .before .before .before .before .before .before .before .before .args .start) (c .before .before .before .before .before .before .before .before .before .args .step) (c .before .before .before .before .before .before .before .before .before .args .samples .now)
+abbrev begin : tie.After-mesopic-weighed → tie.After-begin-at-360
+begin c = c .before .before
+
+sum-is : (c : tie.After-mesopic-weighed) → short (c .mesopic-weighed .result) ≡ mesopicWeighed (begin c .before .before .args .k) (begin c .before .before .args .start) (begin c .before .before .args .step) (begin c .before .before .args .samples .now)
 sum-is c =
-    let fine = c .before .before .before .before .before .before .before .before .before .pre .1 in
-    let few = c .before .before .before .before .before .before .before .before .before .pre .0 in
-    c .short-times-plus2 .ensures
-    ∙ rw (
-      c .before .weigh2 .ensures,
-      c .before .before .before .short-times-plus .ensures,
-      c .before .before .before .before .weigh .ensures,
-      c .before .before .before .before .before .before .joined .ensures,
-      c .before .before .before .before .before .before .before .row-of .ensures,
-      row-weighed,
-      row-weighed,
-    )
-    (mesopic-sum-kept (weighed YBar (c .before .before .before .before .before .before .before .before .before .args .start) (c .before .before .before .before .before .before .before .before .before .args .step) (c .before .before .before .before .before .before .before .before .before .args .samples .now)) (weighed VPrime (c .before .before .before .before .before .before .before .before .before .args .start) (c .before .before .before .before .before .before .before .before .before .args .step) (c .before .before .before .before .before .before .before .before .before .args .samples .now)) (k (c .before .before .before .before .before .before .before .before .before)) (1000 - k (c .before .before .before .before .before .before .before .before .before))
-    (sum-small (c .before .before .before .before .before .before .before .before .before .args .start) (c .before .before .before .before .before .before .before .before .before .args .step) (c .before .before .before .before .before .before .before .before .before .args .samples .now) fine YBar) (sum-small (c .before .before .before .before .before .before .before .before .before .args .start) (c .before .before .before .before .before .before .before .before .before .args .step) (c .before .before .before .before .before .before .before .before .before .args .samples .now) fine VPrime) few (omega arith))
+    let s = begin c .before .before in
+    let whole = weighed-begun (s .args .start) (s .args .step) (s .args .samples .now) (s .pre .1) (begin c .begin-at-360 .result) (begin c .begin-at-360 .ensures) in
+    c .mesopic-weighed .ensures ∙ rw (whole YBar, whole VPrime)
 
-divisor-is :
-    (c : tie.After-short-times-plus3) → short (c .short-times-plus3 .result) ≡ mesopicDivisor (k (c .before .before .before .before .before .before .before .before .before .before .before)) (c .before .before .before .before .before .before .before .before .before .before .before .args .step)
+divisor-is : (c : tie.After-short-times-plus) → short (c .short-times-plus .result) ≡ mesopicDivisor (begin (c .before .before .before) .before .before .args .k) (begin (c .before .before .before) .before .before .args .step)
 divisor-is c =
-    let s = c .before .before .before .before .before .before .before .before .before .before .before .args .step in
-    let low = on-grid (c .before .before .before .before .before .before .before .before .before .before .before .args .start) (c .before .before .before .before .before .before .before .before .before .before .before .args .step) (c .before .before .before .before .before .before .before .before .before .before .before .args .samples .now) (c .before .before .before .before .before .before .before .before .before .before .before .pre .1) .step-high in
-    let few = c .before .before .before .before .before .before .before .before .before .before .before .pre .0 in
-    c .short-times-plus3 .ensures
-    ∙ rw (c .before .scale .ensures, c .before .before .before .before .before .before .before .before .joined .ensures)
-    (mesopic-divisor-kept (s * 10 ^ 16) (1000 * k (c .before .before .before .before .before .before .before .before .before .before .before) + 402 * (1000 - k (c .before .before .before .before .before .before .before .before .before .before .before))) (omega arith) (omega arith))
+    let s = begin (c .before .before .before) .before .before in
+    let few = s .pre .0 in
+    let high = on-grid (s .args .start) (s .args .step) (s .args .samples .now) (s .pre .1) .step-high in
+    c .short-times-plus .ensures
+    ∙ rw (c .before .before .scale .ensures, c .before .joined .ensures)
+    (mesopic-divisor-kept (s .args .step * 10 ^ 16) (1000 * s .args .k + 402 * (1000 - s .args .k)) (omega arith) (omega arith))
 
-row-of-requires : tie.Need-row-of-requires
-row-of-requires c κs = grid-fine (c .before .args .start) (c .before .args .step) (c .before .args .samples .now) (c .before .pre .1)
+begin-at-360-requires : tie.Need-begin-at-360-requires
+begin-at-360-requires c κs = let s = c .before in sought (s .args .start) (s .args .step) (s .args .samples .now) (s .pre .1)
+
+mul-mesopic-weighed : tie.Need-mul-mesopic-weighed
+mul-mesopic-weighed c = omega (arith, in-row c)
+
+sub-mesopic-weighed : tie.Need-sub-mesopic-weighed
+sub-mesopic-weighed c = in-row c
+
+part-mesopic-weighed-start : tie.Need-part-mesopic-weighed-start
+part-mesopic-weighed-start c = in-row c
+
+part-mesopic-weighed-end : tie.Need-part-mesopic-weighed-end
+part-mesopic-weighed-end c = search needs
+
+mesopic-weighed-requires : tie.Need-mesopic-weighed-requires
+mesopic-weighed-requires c κs =
+    let s = c .before .before .before in
+    (s .pre .0, begun (s .args .start) (s .args .step) (s .args .samples .now) (s .pre .1) (c .before .begin-at-360 .result) (c .before .begin-at-360 .ensures))
+
+mul-bracket : tie.Need-mul-bracket
+mul-bracket c = search needs
+
+sub-bracket : tie.Need-sub-bracket
+sub-bracket c = search needs
+
+mul-bracket-2 : tie.Need-mul-bracket-2
+mul-bracket-2 c = search needs
+
+add-bracket : tie.Need-add-bracket
+add-bracket c = search needs
+
+scale-requires : tie.Need-scale-requires
+scale-requires c κs = let s = begin c .before .before in on-grid (s .args .start) (s .args .step) (s .args .samples .now) (s .pre .1) .step-high
 
 joined-requires : tie.Need-joined-requires
 joined-requires c κs = search needs
 
-weigh-requires : tie.Need-weigh-requires
-weigh-requires c κs = rw (c .before .before .row-of .ensures) (row-small (c .before .before .before .before .args .start) (c .before .before .before .before .args .step) (c .before .before .before .before .args .samples .now) (c .before .before .before .before .pre .1))
-
-sub-short-times-plus : tie.Need-sub-short-times-plus
-sub-short-times-plus c = search needs
-
 short-times-plus-requires : tie.Need-short-times-plus-requires
 short-times-plus-requires c κs = search needs
-
-weigh-requires-2 : tie.Need-weigh-requires-2
-weigh-requires-2 c κs = rw (c .before .before .before .before .before .row-of .ensures) (row-small (c .before .before .before .before .before .before .before .args .start) (c .before .before .before .before .before .before .before .args .step) (c .before .before .before .before .before .before .before .args .samples .now) (c .before .before .before .before .before .before .before .pre .1))
-
-short-times-plus-requires-2 : tie.Need-short-times-plus-requires-2
-short-times-plus-requires-2 c κs = search needs
-
-scale-requires : tie.Need-scale-requires
-scale-requires c κs = on-grid (c .before .before .before .before .before .before .before .before .before .args .start) (c .before .before .before .before .before .before .before .before .before .args .step) (c .before .before .before .before .before .before .before .before .before .args .samples .now) (c .before .before .before .before .before .before .before .before .before .pre .1) .step-high
-
-mul-short-times-plus : tie.Need-mul-short-times-plus
-mul-short-times-plus c = search needs
-
-sub-short-times-plus-2 : tie.Need-sub-short-times-plus-2
-sub-short-times-plus-2 c = search needs
-
-mul-short-times-plus-2 : tie.Need-mul-short-times-plus-2
-mul-short-times-plus-2 c = search needs
-
-add-short-times-plus : tie.Need-add-short-times-plus
-add-short-times-plus c = search needs
-
-short-times-plus-requires-3 : tie.Need-short-times-plus-requires-3
-short-times-plus-requires-3 c κs = search needs
 
 reading-from-requires : tie.Need-reading-from-requires
 reading-from-requires c κs = search needs
 
 returns : tie.Need-returns
 returns c =
-    c .reading-from .ensures
-    ∙ rw (sum-is (c .before .before .before), divisor-is (c .before), mul-comm (k (c .before .before .before .before .before .before .before .before .before .before .before .before) * weighed YBar (c .before .before .before .before .before .before .before .before .before .before .before .before .args .start) (c .before .before .before .before .before .before .before .before .before .before .before .before .args .step) (c .before .before .before .before .before .before .before .before .before .before .before .before .args .samples .now) + (1000 - k (c .before .before .before .before .before .before .before .before .before .before .before .before)) * weighed VPrime (c .before .before .before .before .before .before .before .before .before .before .before .before .args .start) (c .before .before .before .before .before .before .before .before .before .before .before .before .args .step) (c .before .before .before .before .before .before .before .before .before .before .before .before .args .samples .now)) 683000)
+    let sum = c .before .before .before .before in
+    let t = begin sum .before .before .args in
+    c .reading-from .ensures ∙ rw (sum-is sum, divisor-is (c .before), mul-comm (mesopicWeighed (t .k) (t .start) (t .step) (t .samples .now)) 683000)
 
 pub mesopic-of-light-spec : {M : Type 1} → statement M
 mesopic-of-light-spec =
     tie.close
     (tie.spec
-    row-of-requires
-    joined-requires
-    weigh-requires
-    sub-short-times-plus
-    short-times-plus-requires
-    weigh-requires-2
-    short-times-plus-requires-2
+    begin-at-360-requires
+    mul-mesopic-weighed
+    sub-mesopic-weighed
+    part-mesopic-weighed-start
+    part-mesopic-weighed-end
+    mesopic-weighed-requires
+    mul-bracket
+    sub-bracket
+    mul-bracket-2
+    add-bracket
     scale-requires
-    mul-short-times-plus
-    sub-short-times-plus-2
-    mul-short-times-plus-2
-    add-short-times-plus
-    short-times-plus-requires-3
+    joined-requires
+    short-times-plus-requires
     reading-from-requires
     returns)

@@ -1,31 +1,50 @@
--- The setting and the grid are checked first, then the widened reflectances, which are the reflectances; then they are summed.
-use mathlib.Core.Path.{_≡_, refl, sym, _∙_, ap}
-use Prim.Native.Nat.{_≤_}
+-- The setting and the grid are checked first, then the reflectances; then the part that begins at or just below 360 is summed.
+use mathlib.Core.Path.{_≡_, sym, _∙_}
+use mathlib.Core.List.{List}
+use Prim.Native.Nat.{ℕ, _≤_}
+use native.Mathlib.Omega.{arith}
 use lib.ListN.{length}
-use borrow.Author.Needs.{needs}
 use Rattle.grid.specs.declared.Check.the-variants.{Fine}
 use Rattle.grid.specs.Check.{reflectancesCheck}
-use Rattle.grid.proofs.Accepted.{accepted}
-use Rattle.panel.specs.Panel.{settingCheck, surfaceCheck}
+use Rattle.grid.proofs.Accepted.{OnGrid, accepted}
+use Rattle.grid.proofs.Limit.{fine-within}
+use Rattle.spectrum.proofs.Begin.{few, begun}
+use Rattle.panel.specs.Panel.{settingCheck}
 use Rattle.panel.specs.Sums.{SumsOf}
 use Rattle.panel.proofs.Surface.{panel-checked, setting-grid}
+use Rattle.panel.proofs.Weighed.{panel-begun}
+use borrow.Author.Needs.{needs}
 use Rattle.panel.proofs.sums.panel_sums.Statement.{statement}
 use Rattle.panel.proofs.sums.panel_sums.Tie as tie
 
+abbrev start : tie.After-enum-told → tie.Start
+start c = c .before .before .before .before
+
+abbrev given : tie.After-enum-told → List ℕ
+given c = start c .args .reflectances .now
+
 -- the setting and the grid are fine in this arm
-setting-fine : (c : tie.After-enum-told) → settingCheck (c .before .before .before .before .args .observer) (c .before .before .before .before .args .illuminant) (c .before .before .before .before .args .start) (c .before .before .before .before .args .step) (length (c .before .before .before .before .args .reflectances .now)) ≡ Fine
+setting-fine : (c : tie.After-enum-told) → settingCheck (start c .args .observer) (start c .args .illuminant) (start c .args .start) (start c .args .step) (length (given c)) ≡ Fine
 setting-fine c = sym (c .before .before .check-setting .ensures) ∙ c .enum-told .given .1
 
-few : (c : tie.After-enum-told) → length (c .before .before .before .before .args .reflectances .now) ≤ 531
-few c =
-    let s = c .before .before .before .before .args in
-    let n = length (s .reflectances .now) in
-    accepted (s .start) (s .step) n (setting-grid (s .observer) (s .illuminant) (s .start) (s .step) n (setting-fine c)) .many
+on-grid : (c : tie.After-enum-told) → OnGrid (start c .args .start) (start c .args .step) (length (given c))
+on-grid c =
+    let t = start c .args in
+    let n = length (given c) in
+    accepted (t .start) (t .step) n (setting-grid (t .observer) (t .illuminant) (t .start) (t .step) n (setting-fine c))
+
+abbrev setting : tie.After-enum-told2 → tie.After-enum-told
+setting c = c .before .before .before
 
 -- and so are the reflectances in this one
-reflectances-fine : (c : tie.After-enum-told2) → reflectancesCheck (c .before .before .before .before .before .before .before .before .before .before .args .reflectances .now) ≡ Fine
-reflectances-fine c =
-    sym (rw (c .before .before .before .before .widen .ensures .first) at (c .before .before .check-limit .ensures)) ∙ c .enum-told2 .given .1
+reflectances-fine : (c : tie.After-enum-told2) → reflectancesCheck (given (setting c)) ≡ Fine
+reflectances-fine c = sym (c .before .before .check-reflectances .ensures) ∙ c .enum-told2 .given .1
+
+-- where 360 was looked for: the place found lies in the row
+in-row : (c : tie.After-begin-at-360) → c .begin-at-360 .result .place ≤ length (given (setting (c .before)))
+in-row c =
+    let told = setting (c .before) in
+    few (start told .args .start) (start told .args .step) (given told) (on-grid told) (c .begin-at-360 .result) (c .begin-at-360 .ensures)
 
 check-setting-requires : tie.Need-check-setting-requires
 check-setting-requires c κs = search needs
@@ -33,31 +52,34 @@ check-setting-requires c κs = search needs
 enum-told : tie.Need-enum-told
 enum-told c = search needs
 
-widen-requires : tie.Need-widen-requires
-widen-requires c κs = (few (c .before), refl)
-
-array-share-prefix-wide : tie.Need-array-share-prefix-wide
-array-share-prefix-wide c = rw (c .widen .ensures .long) (few (c .before .before))
-
-slice-aggregate-samples : tie.Need-slice-aggregate-samples
-slice-aggregate-samples c = ap length (sym (c .before .widen .ensures .first))
-
-check-limit-requires : tie.Need-check-limit-requires
-check-limit-requires c κs = rw (c .before .widen .ensures .first) (few (c .before .before .before))
+check-reflectances-requires : tie.Need-check-reflectances-requires
+check-reflectances-requires c κs = on-grid c .many
 
 enum-told-2 : tie.Need-enum-told-2
 enum-told-2 c = search needs
 
+begin-at-360-requires : tie.Need-begin-at-360-requires
+begin-at-360-requires c κs = let on = on-grid (setting c) in (on .step-low, on .start-high)
+
+mul-lit-sums : tie.Need-mul-lit-sums
+mul-lit-sums c = omega (arith, in-row c)
+
+sub-lit-sums : tie.Need-sub-lit-sums
+sub-lit-sums c = in-row c
+
+part-lit-sums-start : tie.Need-part-lit-sums-start
+part-lit-sums-start c = in-row c
+
+part-lit-sums-end : tie.Need-part-lit-sums-end
+part-lit-sums-end c = search needs
+
 lit-sums-requires : tie.Need-lit-sums-requires
-unfolding surfaceCheck
 lit-sums-requires c κs =
-    let s = c .before .before .before .before .before .before .before .before .before .before .args in
-    let n = length (s .reflectances .now) in
-    rw (
-      c .before .before .before .before .widen .ensures .first,
-      setting-grid (s .observer) (s .illuminant) (s .start) (s .step) n (setting-fine (c .before .before .before .before .before .before)),
-    )
-    (reflectances-fine c)
+    let begin = c .before in
+    let told = setting (begin .before) in
+    let rs = given told in
+    begun (start told .args .start) (start told .args .step) rs (on-grid told) (begin .begin-at-360 .result) (begin .begin-at-360 .ensures) 10000
+    (fine-within 8 10000 0 rs (reflectances-fine (begin .before)))
 
 enum-known-limit : tie.Need-enum-known-limit
 enum-known-limit c = search needs
@@ -68,19 +90,21 @@ enum-known-setting c = search needs
 returns : tie.Need-returns
 unfolding SumsOf
 returns c =
-    let s = c .before .before .before .before .before .before .before .before .before .before .before .args in (
-      panel-checked (s .observer) (s .illuminant) (s .start) (s .step) (s .reflectances .now)
-          ∙ rw (setting-fine (c .before .before .before .before .before .before .before)) (reflectances-fine (c .before)),
-      rw (c .before .before .before .before .before .widen .ensures .first) at (c .lit-sums .ensures),
+    let begin = c .before .before in
+    let told = setting (begin .before) in
+    let t = start told .args in
+    let rs = given told in (
+      panel-checked (t .observer) (t .illuminant) (t .start) (t .step) rs ∙ rw (setting-fine told) (reflectances-fine (begin .before)),
+      panel-begun (t .start) (t .step) rs (on-grid told) (begin .begin-at-360 .result) (begin .begin-at-360 .ensures) (t .observer) (t .illuminant) (c .lit-sums .result) (c .lit-sums .ensures),
     )
 
 returns-2 : tie.Need-returns-2
 unfolding SumsOf
 returns-2 c =
-    let s = c .before .before .before .before .before .before .before .before .before .before .before .args in
-    panel-checked (s .observer) (s .illuminant) (s .start) (s .step) (s .reflectances .now)
-    ∙ rw (setting-fine (c .before .before .before .before .before .before .before))
-    (sym (rw (c .before .before .before .before .before .widen .ensures .first) at (c .before .before .before .check-limit .ensures)) ∙ c .before .limit .given .1)
+    let told = c .before .before .before .before in
+    let t = start told .args in
+    panel-checked (t .observer) (t .illuminant) (t .start) (t .step) (given told)
+    ∙ rw (setting-fine told) (sym (c .before .before .before .check-reflectances .ensures) ∙ c .before .limit .given .1)
 
 returns-3 : tie.Need-returns-3
 unfolding SumsOf
@@ -95,11 +119,13 @@ panel-sums-spec =
     (tie.spec
     check-setting-requires
     enum-told
-    widen-requires
-    array-share-prefix-wide
-    slice-aggregate-samples
-    check-limit-requires
+    check-reflectances-requires
     enum-told-2
+    begin-at-360-requires
+    mul-lit-sums
+    sub-lit-sums
+    part-lit-sums-start
+    part-lit-sums-end
     lit-sums-requires
     enum-known-limit
     enum-known-setting

@@ -1,20 +1,50 @@
--- An accepted light's row is laid and weighed.
-use Rattle.readings.proofs.LightSums.{light-sums}
-use Rattle.grid.proofs.Light.{grid-fine}
-use Rattle.spectrum.proofs.Light.{row-small}
+-- The sums over the part are the light's.
+use Prim.Native.Nat.{_≤_}
+use native.Mathlib.Omega.{arith}
+use lib.ListN.{length}
+use Rattle.readings.proofs.Part.{sought, few, begun, colour-begun}
+use borrow.Author.Needs.{needs}
 use Rattle.readings.proofs.colour.light_sums.Statement.{statement}
 use Rattle.readings.proofs.colour.light_sums.Tie as tie
 
-row-of-requires : tie.Need-row-of-requires
-row-of-requires c κs = grid-fine (c .before .args .start) (c .before .args .step) (c .before .args .samples .now) (c .before .pre)
+-- where 360 was looked for: the place found lies in the row
+in-row : (c : tie.After-begin-at-360) → c .begin-at-360 .result .place ≤ length (c .before .before .args .samples .now)
+in-row c = let s = c .before .before in few (s .args .start) (s .args .step) (s .args .samples .now) (c .before .before .pre) (c .begin-at-360 .result) (c .begin-at-360 .ensures)
 
-row-sums-requires : tie.Need-row-sums-requires
-row-sums-requires c κs = rw (c .before .row-of .ensures) (row-small (c .before .before .before .args .start) (c .before .before .before .args .step) (c .before .before .before .args .samples .now) (c .before .before .before .pre))
+begin-at-360-requires : tie.Need-begin-at-360-requires
+begin-at-360-requires c κs = let s = c .before in sought (s .args .start) (s .args .step) (s .args .samples .now) (s .pre)
+
+mul-colour-sums : tie.Need-mul-colour-sums
+mul-colour-sums c = omega (arith, in-row c)
+
+sub-colour-sums : tie.Need-sub-colour-sums
+sub-colour-sums c = in-row c
+
+part-colour-sums-start : tie.Need-part-colour-sums-start
+part-colour-sums-start c = in-row c
+
+part-colour-sums-end : tie.Need-part-colour-sums-end
+part-colour-sums-end c = search needs
+
+colour-sums-requires : tie.Need-colour-sums-requires
+colour-sums-requires c κs =
+    let s = c .before .before .before in
+    begun (s .args .start) (s .args .step) (s .args .samples .now) (s .pre) (c .before .begin-at-360 .result) (c .before .begin-at-360 .ensures)
 
 returns : tie.Need-returns
 returns c =
-    light-sums (c .before .before .before .before .args .observer) (c .before .before .before .before .args .start) (c .before .before .before .before .args .step) (c .before .before .before .before .args .samples .now) (c .row-sums .result)
-    (rw (c .before .before .row-of .ensures) at (c .row-sums .ensures))
+    let begin = c .before .before .begin-at-360 in
+    let s = c .before .before .before .before in
+    colour-begun (s .args .start) (s .args .step) (s .args .samples .now) (s .pre) (begin .result) (begin .ensures) (s .args .observer) (c .colour-sums .result) (c .colour-sums .ensures)
 
 pub light-sums-spec : {M : Type 1} → statement M
-light-sums-spec = tie.close (tie.spec row-of-requires row-sums-requires returns)
+light-sums-spec =
+    tie.close
+    (tie.spec
+    begin-at-360-requires
+    mul-colour-sums
+    sub-colour-sums
+    part-colour-sums-start
+    part-colour-sums-end
+    colour-sums-requires
+    returns)

@@ -1,24 +1,33 @@
--- Each sum of an accepted light is made once, and the four answers are worked from them.
+-- The four sums over the part are an accepted light's.
 use mathlib.Core.Path.{_≡_, _∙_, sym}
-use Prim.Native.Nat.{_+_, _^_, _<_}
+use Prim.Native.Nat.{_≤_}
+use native.Mathlib.Omega.{arith}
+use lib.ListN.{length}
 use Rattle.grid.specs.declared.Check.the-variants.{Fine}
 use Rattle.grid.specs.Check.{lightCheck}
-use Rattle.exact.specs.Value.{short}
-use Rattle.grid.proofs.Light.{grid-fine, on-grid}
-use Rattle.spectrum.proofs.Light.{row-small, row-weighed}
+use Rattle.grid.proofs.Light.{on-grid}
+use Rattle.curves.specs.declared.Curve.the-variants.{VPrime}
 use Rattle.readings.specs.Readings.{illuminanceOf, xyzOf, xyOf}
-use Rattle.readings.proofs.Small.{colour-small}
-use Rattle.readings.proofs.LightSums.{light-sums}
 use Rattle.readings.specs.Colour.{LightSums}
+use Rattle.readings.proofs.Small.{colour-small}
+use Rattle.readings.proofs.Part.{sought, few, begun, weighed-begun, colour-begun}
 use borrow.Author.Needs.{needs}
 use Rattle.readings.proofs.report.figures.Statement.{statement}
 use Rattle.readings.proofs.report.figures.Tie as tie
 
+-- the light is accepted in this arm
 fine : (c : tie.After-enum-told) → lightCheck (c .before .before .before .before .args .start) (c .before .before .before .before .args .step) (c .before .before .before .before .args .samples .now) ≡ Fine
 fine c = sym (c .before .before .check-light .ensures) ∙ c .enum-told .given .1
 
-light : (c : tie.After-row-sums) → LightSums 2 (c .before .before .before .before .before .before .before .args .start) (c .before .before .before .before .before .before .before .args .step) (c .before .before .before .before .before .before .before .args .samples .now) (c .row-sums .result)
-light c = light-sums 2 (c .before .before .before .before .before .before .before .args .start) (c .before .before .before .before .before .before .before .args .step) (c .before .before .before .before .before .before .before .args .samples .now) (c .row-sums .result) (rw (c .before .before .row-of .ensures) at (c .row-sums .ensures))
+-- where 360 was looked for: the place found lies in the row
+in-row : (c : tie.After-begin-at-360) → c .begin-at-360 .result .place ≤ length (c .before .before .before .before .before .args .samples .now)
+in-row c = let s = c .before .before .before .before .before in few (s .args .start) (s .args .step) (s .args .samples .now) (fine (c .before)) (c .begin-at-360 .result) (c .begin-at-360 .ensures)
+
+light : (c : tie.After-figure-sums) → LightSums 2 (c .before .before .before .before .before .before .before .args .start) (c .before .before .before .before .before .before .before .args .step) (c .before .before .before .before .before .before .before .args .samples .now) (c .figure-sums .result .colour)
+light c =
+    let begin = c .before .before in
+    let t = begin .before .before .before .before .before .args in
+    colour-begun (t .start) (t .step) (t .samples .now) (fine (begin .before)) (begin .begin-at-360 .result) (begin .begin-at-360 .ensures) 2 (c .figure-sums .result .colour) (c .figure-sums .ensures .colour)
 
 check-light-requires : tie.Need-check-light-requires
 check-light-requires c κs = search needs
@@ -26,22 +35,39 @@ check-light-requires c κs = search needs
 enum-told : tie.Need-enum-told
 enum-told c = search needs
 
-row-of-requires : tie.Need-row-of-requires
-row-of-requires c κs = grid-fine (c .before .before .before .before .args .start) (c .before .before .before .before .args .step) (c .before .before .before .before .args .samples .now) (fine c)
+begin-at-360-requires : tie.Need-begin-at-360-requires
+begin-at-360-requires c κs = let s = c .before .before .before .before in sought (s .args .start) (s .args .step) (s .args .samples .now) (fine c)
 
-row-sums-requires : tie.Need-row-sums-requires
-row-sums-requires c κs = rw (c .before .row-of .ensures) (row-small (c .before .before .before .before .before .before .args .start) (c .before .before .before .before .before .before .args .step) (c .before .before .before .before .before .before .args .samples .now) (fine (c .before .before)))
+mul-figure-sums : tie.Need-mul-figure-sums
+mul-figure-sums c = omega (arith, in-row c)
 
-weigh-requires : tie.Need-weigh-requires
-weigh-requires c κs = rw (c .before .before .before .row-of .ensures) (row-small (c .before .before .before .before .before .before .before .before .args .start) (c .before .before .before .before .before .before .before .before .args .step) (c .before .before .before .before .before .before .before .before .args .samples .now) (fine (c .before .before .before .before)))
+sub-figure-sums : tie.Need-sub-figure-sums
+sub-figure-sums c = in-row c
+
+part-figure-sums-start : tie.Need-part-figure-sums-start
+part-figure-sums-start c = in-row c
+
+part-figure-sums-end : tie.Need-part-figure-sums-end
+part-figure-sums-end c = search needs
+
+figure-sums-requires : tie.Need-figure-sums-requires
+figure-sums-requires c κs =
+    let begin = c .before in
+    let s = begin .before .before .before .before .before in
+    begun (s .args .start) (s .args .step) (s .args .samples .now) (fine (begin .before)) (begin .begin-at-360 .result) (begin .begin-at-360 .ensures)
 
 scale-requires : tie.Need-scale-requires
-scale-requires c κs = on-grid (c .before .before .before .before .before .before .before .before .before .args .start) (c .before .before .before .before .before .before .before .before .before .args .step) (c .before .before .before .before .before .before .before .before .before .args .samples .now) (fine (c .before .before .before .before .before)) .step-high
+scale-requires c κs =
+    let told = c .before .before .before in
+    let s = told .before .before .before .before in
+    on-grid (s .args .start) (s .args .step) (s .args .samples .now) (fine told) .step-high
 
 figures-from-requires : tie.Need-figures-from-requires
 figures-from-requires c κs =
-    let sums = light (c .before .before .before) in
-    rw (sums .x, sums .y, sums .z) (colour-small (c .before .before .before .before .before .before .before .before .before .before .args .start) (c .before .before .before .before .before .before .before .before .before .before .args .step) (c .before .before .before .before .before .before .before .before .before .before .args .samples .now) (fine (c .before .before .before .before .before .before)) 2)
+    let told = c .before .before .before .before in
+    let t = told .before .before .before .before .args in
+    let sums = light (c .before) in
+    rw (sums .x, sums .y, sums .z) (colour-small (t .start) (t .step) (t .samples .now) (fine told) 2)
 
 enum-known-check : tie.Need-enum-known-check
 enum-known-check c = search needs
@@ -49,10 +75,11 @@ enum-known-check c = search needs
 returns : tie.Need-returns
 unfolding illuminanceOf xyzOf xyOf
 returns c =
-    let sums = light (c .before .before .before .before) in
-    c .figures-from .ensures
-    ∙ rw
-    (sums .x, sums .y, sums .z, c .before .before .weigh .ensures, c .before .before .before .before .before .before .row-of .ensures, row-weighed, c .before .scale .ensures, fine (c .before .before .before .before .before .before .before))
+    let begin = c .before .before .before .before in
+    let t = begin .before .before .before .before .before .args in
+    let sums = light (c .before .before) in
+    let night = c .before .before .figure-sums .ensures .night ∙ weighed-begun (t .start) (t .step) (t .samples .now) (fine (begin .before)) (begin .begin-at-360 .result) (begin .begin-at-360 .ensures) VPrime in
+    c .figures-from .ensures ∙ rw (sums .x, sums .y, sums .z, night, c .before .scale .ensures, fine (begin .before))
 
 returns-2 : tie.Need-returns-2
 unfolding illuminanceOf xyzOf xyOf
@@ -64,9 +91,12 @@ figures-spec =
     (tie.spec
     check-light-requires
     enum-told
-    row-of-requires
-    row-sums-requires
-    weigh-requires
+    begin-at-360-requires
+    mul-figure-sums
+    sub-figure-sums
+    part-figure-sums-start
+    part-figure-sums-end
+    figure-sums-requires
     scale-requires
     figures-from-requires
     enum-known-check

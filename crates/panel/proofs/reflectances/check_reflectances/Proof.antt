@@ -1,0 +1,40 @@
+-- Where there is no fault the check is fine; else the widened reflectances, which are the reflectances, are checked.
+use mathlib.Core.Path.{sym, ap}
+use lib.ListN.{length}
+use Rattle.grid.proofs.Limit.{within-fine}
+use borrow.Author.Needs.{needs}
+use Rattle.panel.proofs.reflectances.check_reflectances.Statement.{statement}
+use Rattle.panel.proofs.reflectances.check_reflectances.Tie as tie
+
+no-fault-requires : tie.Need-no-fault-requires
+no-fault-requires c κs = search needs
+
+returns : tie.Need-returns
+returns c = sym (within-fine 8 10000 0 (c .before .before .before .args .reflectances .now) (c .before .no-fault .ensures (c .if1 .taken)))
+
+widen-requires : tie.Need-widen-requires
+widen-requires c κs = search needs
+
+array-share-prefix-wide : tie.Need-array-share-prefix-wide
+array-share-prefix-wide c = search needs
+
+slice-aggregate-check-limit : tie.Need-slice-aggregate-check-limit
+slice-aggregate-check-limit c = ap length (sym (c .before .widen .ensures .first))
+
+check-limit-requires : tie.Need-check-limit-requires
+check-limit-requires c κs = rw (c .before .widen .ensures .first) (c .before .before .before .before .before .before .pre)
+
+returns-2 : tie.Need-returns-2
+returns-2 c = rw (c .before .before .widen .ensures .first) at (c .check-limit .ensures)
+
+pub check-reflectances-spec : {M : Type 1} → statement M
+check-reflectances-spec =
+    tie.close
+    (tie.spec
+    no-fault-requires
+    returns
+    widen-requires
+    array-share-prefix-wide
+    slice-aggregate-check-limit
+    check-limit-requires
+    returns-2)

@@ -1,0 +1,22 @@
+-- The row of the part is laid, and weighed by each of the observer's curves.
+use Rattle.spectrum.proofs.Light.{begun-small}
+use Rattle.readings.proofs.LightSums.{light-sums}
+use borrow.Author.Needs.{needs}
+use Rattle.readings.proofs.sums.colour_sums.Statement.{statement}
+use Rattle.readings.proofs.sums.colour_sums.Tie as tie
+
+row-from-requires : tie.Need-row-from-requires
+row-from-requires c κs = search needs
+
+row-sums-requires : tie.Need-row-sums-requires
+row-sums-requires c κs =
+    let s = c .before .before .before in
+    rw (c .before .row-from .ensures) (begun-small 1000000 (s .args .first) (s .args .step) (s .args .part .now) (s .pre))
+
+returns : tie.Need-returns
+returns c =
+    let t = c .before .before .before .before .args in
+    light-sums (t .observer) (t .first) (t .step) (t .part .now) (c .row-sums .result) (rw (c .before .before .row-from .ensures) at (c .row-sums .ensures))
+
+pub colour-sums-spec : {M : Type 1} → statement M
+colour-sums-spec = tie.close (tie.spec row-from-requires row-sums-requires returns)

@@ -1,0 +1,69 @@
+-- The row of the part is laid once, and the sum of the two passes no 96 bits.
+use mathlib.Core.Path.{_∙_}
+use Prim.Native.Nat.{_-_}
+use native.Mathlib.Omega.{arith}
+use Rattle.curves.specs.declared.Curve.the-variants.{YBar, VPrime}
+use Rattle.spectrum.proofs.Light.{begun-small, row-weighed}
+use Rattle.readings.specs.Readings.{weighed}
+use Rattle.readings.proofs.Small.{begun-sum-small, mesopic-sum-kept}
+use borrow.Author.Needs.{needs}
+use Rattle.readings.proofs.sums.mesopic_weighed.Statement.{statement}
+use Rattle.readings.proofs.sums.mesopic_weighed.Tie as tie
+
+row-from-requires : tie.Need-row-from-requires
+row-from-requires c κs = search needs
+
+weigh-requires : tie.Need-weigh-requires
+weigh-requires c κs =
+    let s = c .before .before .before in
+    rw (c .before .row-from .ensures) (begun-small 1000000 (s .args .first) (s .args .step) (s .args .part .now) (s .pre .1))
+
+sub-short-times-plus : tie.Need-sub-short-times-plus
+sub-short-times-plus c = search needs
+
+joined-requires : tie.Need-joined-requires
+joined-requires c κs = search needs
+
+short-times-plus-requires : tie.Need-short-times-plus-requires
+short-times-plus-requires c κs = search needs
+
+weigh-requires-2 : tie.Need-weigh-requires-2
+weigh-requires-2 c κs =
+    let row = c .before .before .before .before .before in
+    let s = row .before .before in
+    rw (row .row-from .ensures) (begun-small 1000000 (s .args .first) (s .args .step) (s .args .part .now) (s .pre .1))
+
+short-times-plus-requires-2 : tie.Need-short-times-plus-requires-2
+short-times-plus-requires-2 c κs = search needs
+
+returns : tie.Need-returns
+returns c =
+    let night = c .before .before .before in
+    let row = night .before .before .before .before in
+    let s = row .before .before in
+    let t = s .args in
+    let small = begun-sum-small (t .first) (t .step) (t .part .now) (s .pre .1) in
+    c .short-times-plus2 .ensures
+    ∙ rw (
+      c .before .weigh2 .ensures,
+      night .short-times-plus .ensures,
+      night .before .before .weigh .ensures,
+      night .before .joined .ensures,
+      row .row-from .ensures,
+      row-weighed,
+      row-weighed,
+    )
+    (mesopic-sum-kept (weighed YBar (t .first) (t .step) (t .part .now)) (weighed VPrime (t .first) (t .step) (t .part .now)) (t .k) (1000 - t .k) (small YBar) (small VPrime) (s .pre .0) (omega arith))
+
+pub mesopic-weighed-spec : {M : Type 1} → statement M
+mesopic-weighed-spec =
+    tie.close
+    (tie.spec
+    row-from-requires
+    weigh-requires
+    sub-short-times-plus
+    joined-requires
+    short-times-plus-requires
+    weigh-requires-2
+    short-times-plus-requires-2
+    returns)
