@@ -8,8 +8,8 @@ Each function returns plain values, or raises `Refused` with the refusal's numbe
     >>> quailribbon.photopic(380, 1, samples)
     40980
 
-The shared library libquailribbon.so is looked for beside this file, in ../lib, and where the system's loader looks;
-the environment variable QUAILRIBBON_LIBRARY names another one.
+The shared library libquailribbon.so is looked for beside this file, in the folder lib of an installation by ./install,
+and where the system's loader looks; the environment variable QUAILRIBBON_LIBRARY names another one.
 """
 
 import ctypes
@@ -77,7 +77,7 @@ _Figures = _flat("_Figures", ("photopic", "scotopic", "X", "Y", "Z", "xy_number"
 def _load():
     here = Path(__file__).resolve().parent
     named = os.environ.get("QUAILRIBBON_LIBRARY")
-    beside = [here / "libquailribbon.so", here.parent / "lib" / "libquailribbon.so"]
+    beside = [here / "libquailribbon.so", here.parents[1] / "lib" / "libquailribbon.so"]
     found = [named] if named else [str(path) for path in beside if path.exists()]
     return ctypes.CDLL(found[0] if found else "libquailribbon.so")
 
