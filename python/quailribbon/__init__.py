@@ -1,28 +1,65 @@
 """Exact light readings from a sampled spectrum: the Quailribbon library for Python.
 
-Each function returns plain values, or raises `Refused` with the refusal's number, name and place.
-
     >>> import quailribbon
     >>> samples = [0] * 401
     >>> samples[80] = 1_000_000
     >>> quailribbon.photopic(380, 1, samples)
     40980
 
+What is taken. Start, step, observer, illuminant and k are whole numbers: whatever `operator.index` takes. Samples,
+reflectances and records are rows of such numbers: a list, a tuple or another sequence, or anything with a buffer of one
+dimension that holds whole numbers, such as bytes, an array.array or a numpy array. A contiguous buffer of unsigned
+numbers of the right width (32 bits for samples, 16 for reflectances, 8 for records) is read where it is, writable or
+not; everything else is copied first, which takes longer.
+
+What is raised. `Refused`, with the number, name and place of the refusal, where the rules refuse what was asked,
+however large its numbers are; a negative start, step, observer or illuminant is refused like any other wrong one.
+`ValueError` where k or a number of a row is negative, or a record's byte is above 255. `TypeError` where something is
+no whole number or no such row: a float, a text, a dict, a set, an iterator, a buffer of floats or of two dimensions.
+The message says which argument it is, or which place of the row, counted from 0.
+
 The shared library libquailribbon.so is looked for beside this file, in the folder lib of an installation by ./install,
 and where the system's loader looks; the environment variable QUAILRIBBON_LIBRARY names another one.
 """
 
-import ctypes
-import os
-from collections import namedtuple
-from ctypes import POINTER, c_double, c_size_t, c_uint8, c_uint16, c_uint32
-from pathlib import Path
+from collections.abc import Sequence
+from ctypes import c_uint32, create_string_buffer
+from typing import NamedTuple, Protocol, SupportsIndex, Union
 
-MOST_SAMPLES = 531
-LONGEST_RECORD = 1331
-LONGEST_REPORT = 99
+from . import _c
+from ._arguments import BYTES, REFLECTANCES, SAMPLES, grid, row, setting, thousandths
+from ._c import LONGEST_RECORD, LONGEST_REPORT, MOST_SAMPLES
 
-NAMES = {
+__all__ = [
+    "LONGEST_RECORD",
+    "LONGEST_REPORT",
+    "MOST_SAMPLES",
+    "NAMES",
+    "Buffer",
+    "ChartPoint",
+    "Figures",
+    "Record",
+    "Refused",
+    "Row",
+    "Xy",
+    "Xyz",
+    "chart",
+    "figures",
+    "mesopic",
+    "panel_chart",
+    "panel_xy",
+    "panel_xyz",
+    "photopic",
+    "photopic_10",
+    "read_record",
+    "report",
+    "scotopic",
+    "write_record",
+    "xy",
+    "xyz",
+]
+
+NAMES: dict[int, str] = {
     1: "STEP",
     2: "START",
     3: "COUNT",
@@ -42,183 +79,176 @@ NAMES = {
 
 
 class Refused(Exception):
-    """A call that was refused, with the refusal's number, name and place."""
+    """A call that was refused, with the refusal's number, name and place (0 but for 4 and 8)."""
 
-    def __init__(self, number, place):
+    def __init__(self, number: int, place: int) -> None:
+        super().__init__(number, place)
         self.number = number
         self.name = NAMES[number]
         self.place = place
-        where = f" at {place}" if number in (4, 8) else ""
-        super().__init__(f"refused {number} ({self.name}){where}")
+
+    def __str__(self) -> str:
+        where = f" at {self.place}" if self.number in (4, 8) else ""
+        return f"refused {self.number} ({self.name}){where}"
 
 
-Xyz = namedtuple("Xyz", "x y z")
-Xy = namedtuple("Xy", "x y")
-ChartPoint = namedtuple("ChartPoint", "x y")
-Record = namedtuple("Record", "start step samples")
-Figures = namedtuple("Figures", "photopic scotopic X Y Z xy")
+class Buffer(Protocol):
+    """Anything that lends its memory, as bytes, array.array, memoryview and numpy's arrays do."""
+
+    def __buffer__(self, flags: int, /) -> memoryview: ...
 
 
-def _flat(name, words, floats=()):
-    """A flat answer of C's: number and place, 32-bit words, and floats."""
-    fields = [(word, c_uint32) for word in ("number", "place", *words)]
-    return type(name, (ctypes.Structure,), {"_fields_": fields + [(word, c_double) for word in floats]})
+Row = Union[Sequence[SupportsIndex], Buffer]
 
 
-_Reading = _flat("_Reading", ("value",))
-_Xyz = _flat("_Xyz", ("x", "y", "z"))
-_Xy = _flat("_Xy", ("x", "y"))
-_Chart = _flat("_Chart", (), ("x", "y"))
-_Record = _flat("_Record", ("start", "step", "count"))
-_Written = _flat("_Written", ("length",))
-_Figures = _flat("_Figures", ("photopic", "scotopic", "X", "Y", "Z", "xy_number", "x", "y"))
+class Xyz(NamedTuple):
+    """X, Y and Z: of a light in millilux, of a panel in thousandths."""
+
+    x: int
+    y: int
+    z: int
 
 
-def _load():
-    here = Path(__file__).resolve().parent
-    named = os.environ.get("QUAILRIBBON_LIBRARY")
-    beside = [here / "libquailribbon.so", here.parents[1] / "lib" / "libquailribbon.so"]
-    found = [named] if named else [str(path) for path in beside if path.exists()]
-    return ctypes.CDLL(found[0] if found else "libquailribbon.so")
+class Xy(NamedTuple):
+    """x and y in hundred-thousandths."""
+
+    x: int
+    y: int
 
 
-_library = _load()
+class ChartPoint(NamedTuple):
+    """x and y as floats."""
+
+    x: float
+    y: float
 
 
-def _declare(name, answer, *arguments):
-    function = getattr(_library, name)
-    function.restype = answer
-    function.argtypes = arguments
-    return function
+class Figures(NamedTuple):
+    """The report's figures; `xy` is None where there is no light."""
+
+    photopic: int
+    scotopic: int
+    X: int
+    Y: int
+    Z: int
+    xy: Union[Xy, None]
 
 
-_LIGHT = (c_uint32, c_uint32, POINTER(c_uint32), c_size_t)
-_PANEL = (c_uint32, c_uint32, c_uint32, c_uint32, POINTER(c_uint16), c_size_t)
-_photopic = _declare("qr_photopic", _Reading, *_LIGHT)
-_scotopic = _declare("qr_scotopic", _Reading, *_LIGHT)
-_photopic_10 = _declare("qr_photopic_10", _Reading, *_LIGHT)
-_mesopic = _declare("qr_mesopic", _Reading, c_uint32, *_LIGHT)
-_xyz = _declare("qr_xyz", _Xyz, c_uint32, *_LIGHT)
-_xy = _declare("qr_xy", _Xy, c_uint32, *_LIGHT)
-_chart = _declare("qr_chart", _Chart, c_uint32, *_LIGHT)
-_panel_xyz = _declare("qr_panel_xyz", _Xyz, *_PANEL)
-_panel_xy = _declare("qr_panel_xy", _Xy, *_PANEL)
-_panel_chart = _declare("qr_panel_chart", _Chart, *_PANEL)
-_figures = _declare("qr_figures", _Figures, *_LIGHT)
-_read_record = _declare("qr_read_record", _Record, POINTER(c_uint8), c_size_t, POINTER(c_uint32), c_size_t)
-_write_record = _declare("qr_write_record", _Written, *_LIGHT, POINTER(c_uint8), c_size_t)
-_report = _declare("qr_report", _Written, POINTER(c_uint8), c_size_t, POINTER(c_uint8), c_size_t)
+class Record(NamedTuple):
+    """The spectrum that a packed record holds."""
+
+    start: int
+    step: int
+    samples: list[int]
 
 
-def _row(kind, values):
-    """Values as a row of C's, with its length. A value that doesn't fit is a ValueError: C would cut it."""
-    limit = 256 ** ctypes.sizeof(kind)
-    for value in values:
-        if not 0 <= value < limit:
-            raise ValueError(f"{value} is not a whole number from 0 to {limit - 1}")
-    return (kind * max(len(values), 1))(*values), len(values)
-
-
-def _setting(value):
-    if not 0 <= value < 2**32:
-        raise ValueError(f"{value} is not a whole number from 0 to {2**32 - 1}")
-    return value
-
-
-def _given(answer):
+def _ask(function, settings, kind, values, *room):
+    """The answer of C to the settings, the row of values and the room for what is written."""
+    view, address = row(kind, values)  # the view holds the row where it is until C has answered
+    answer = function(*settings, address, len(view), *room)
     if answer.number:
         raise Refused(answer.number, answer.place)
     return answer
 
 
-def _light(function, *settings, samples):
-    return _given(function(*map(_setting, settings), *_row(c_uint32, samples)))
+def _light(function, start, step, samples):
+    return _ask(function, grid(start, step), SAMPLES, samples)
 
 
-def _panel(function, *settings, reflectances):
-    return _given(function(*map(_setting, settings), *_row(c_uint16, reflectances)))
+def _seen_light(function, observer, start, step, samples):
+    return _ask(function, (setting(observer, "observer"), *grid(start, step)), SAMPLES, samples)
 
 
-def photopic(start, step, samples):
+def _panel(function, observer, illuminant, start, step, reflectances):
+    settings = (setting(observer, "observer"), setting(illuminant, "illuminant"), *grid(start, step))
+    return _ask(function, settings, REFLECTANCES, reflectances)
+
+
+def photopic(start: SupportsIndex, step: SupportsIndex, samples: Row) -> int:
     """Photopic illuminance in millilux."""
-    return _light(_photopic, start, step, samples=samples).value
+    return _light(_c.photopic, start, step, samples).value
 
 
-def scotopic(start, step, samples):
+def scotopic(start: SupportsIndex, step: SupportsIndex, samples: Row) -> int:
     """Scotopic illuminance in millilux."""
-    return _light(_scotopic, start, step, samples=samples).value
+    return _light(_c.scotopic, start, step, samples).value
 
 
-def photopic_10(start, step, samples):
+def photopic_10(start: SupportsIndex, step: SupportsIndex, samples: Row) -> int:
     """10° photopic illuminance in millilux."""
-    return _light(_photopic_10, start, step, samples=samples).value
+    return _light(_c.photopic_10, start, step, samples).value
 
 
-def mesopic(k, start, step, samples):
-    """Mesopic illuminance in millilux, at k thousandths."""
-    return _light(_mesopic, k, start, step, samples=samples).value
+def mesopic(k: SupportsIndex, start: SupportsIndex, step: SupportsIndex, samples: Row) -> int:
+    """Mesopic illuminance in millilux, at k thousandths, 0 to 1000."""
+    return _ask(_c.mesopic, (thousandths(k), *grid(start, step)), SAMPLES, samples).value
 
 
-def xyz(observer, start, step, samples):
-    """X, Y and Z in millilux."""
-    answer = _light(_xyz, observer, start, step, samples=samples)
+def xyz(observer: SupportsIndex, start: SupportsIndex, step: SupportsIndex, samples: Row) -> Xyz:
+    """X, Y and Z in millilux, for observer 2 or 10."""
+    answer = _seen_light(_c.xyz, observer, start, step, samples)
     return Xyz(answer.x, answer.y, answer.z)
 
 
-def xy(observer, start, step, samples):
-    """x and y in hundred-thousandths; refused as DARK where there is no light."""
-    answer = _light(_xy, observer, start, step, samples=samples)
+def xy(observer: SupportsIndex, start: SupportsIndex, step: SupportsIndex, samples: Row) -> Xy:
+    """x and y in hundred-thousandths, for observer 2 or 10; `Refused` with number 9 where there is no light."""
+    answer = _seen_light(_c.xy, observer, start, step, samples)
     return Xy(answer.x, answer.y)
 
 
-def chart(observer, start, step, samples):
-    """The chart's point; refused as DARK where there is no light."""
-    answer = _light(_chart, observer, start, step, samples=samples)
+def chart(observer: SupportsIndex, start: SupportsIndex, step: SupportsIndex, samples: Row) -> ChartPoint:
+    """The chart's point, for observer 2 or 10; `Refused` with number 9 where there is no light."""
+    answer = _seen_light(_c.chart, observer, start, step, samples)
     return ChartPoint(answer.x, answer.y)
 
 
-def panel_xyz(observer, illuminant, start, step, reflectances):
-    """A panel's X, Y and Z in thousandths under illuminant 1 (A) or 2 (D65)."""
-    answer = _panel(_panel_xyz, observer, illuminant, start, step, reflectances=reflectances)
+def panel_xyz(
+    observer: SupportsIndex, illuminant: SupportsIndex, start: SupportsIndex, step: SupportsIndex, reflectances: Row
+) -> Xyz:
+    """A panel's X, Y and Z in thousandths, for observer 2 or 10 under illuminant 1 (A) or 2 (D65)."""
+    answer = _panel(_c.panel_xyz, observer, illuminant, start, step, reflectances)
     return Xyz(answer.x, answer.y, answer.z)
 
 
-def panel_xy(observer, illuminant, start, step, reflectances):
-    """A panel's x and y in hundred-thousandths; refused as DARK where it reflects nothing."""
-    answer = _panel(_panel_xy, observer, illuminant, start, step, reflectances=reflectances)
+def panel_xy(
+    observer: SupportsIndex, illuminant: SupportsIndex, start: SupportsIndex, step: SupportsIndex, reflectances: Row
+) -> Xy:
+    """A panel's x and y in hundred-thousandths; `Refused` with number 9 where it reflects nothing."""
+    answer = _panel(_c.panel_xy, observer, illuminant, start, step, reflectances)
     return Xy(answer.x, answer.y)
 
 
-def panel_chart(observer, illuminant, start, step, reflectances):
-    """A panel's point on the chart; refused as DARK where it reflects nothing."""
-    answer = _panel(_panel_chart, observer, illuminant, start, step, reflectances=reflectances)
+def panel_chart(
+    observer: SupportsIndex, illuminant: SupportsIndex, start: SupportsIndex, step: SupportsIndex, reflectances: Row
+) -> ChartPoint:
+    """A panel's point on the chart; `Refused` with number 9 where it reflects nothing."""
+    answer = _panel(_c.panel_chart, observer, illuminant, start, step, reflectances)
     return ChartPoint(answer.x, answer.y)
 
 
-def figures(start, step, samples):
-    """The report's figures at observer 2; `xy` is None where the light is dark."""
-    answer = _light(_figures, start, step, samples=samples)
+def figures(start: SupportsIndex, step: SupportsIndex, samples: Row) -> Figures:
+    """The report's figures at observer 2. Where there is no light they are given all the same, and `xy` is None."""
+    answer = _light(_c.figures, start, step, samples)
     colour = None if answer.xy_number else Xy(answer.x, answer.y)
     return Figures(answer.photopic, answer.scotopic, answer.X, answer.Y, answer.Z, colour)
 
 
-def read_record(record):
+def read_record(record: Row) -> Record:
     """The start, step and samples of a packed record."""
-    row = (c_uint32 * MOST_SAMPLES)()
-    answer = _given(_read_record(*_row(c_uint8, record), row, MOST_SAMPLES))
-    return Record(answer.start, answer.step, row[: answer.count])
+    samples = (c_uint32 * MOST_SAMPLES)()
+    answer = _ask(_c.read_record, (), BYTES, record, samples, MOST_SAMPLES)
+    return Record(answer.start, answer.step, samples[: answer.count])
 
 
-def write_record(start, step, samples):
-    """The packed record of a spectrum, as bytes."""
-    record = (c_uint8 * LONGEST_RECORD)()
-    row = _row(c_uint32, samples)
-    answer = _given(_write_record(_setting(start), _setting(step), *row, record, LONGEST_RECORD))
-    return bytes(record[: answer.length])
+def write_record(start: SupportsIndex, step: SupportsIndex, samples: Row) -> bytes:
+    """The packed record of a spectrum."""
+    record = create_string_buffer(LONGEST_RECORD)
+    answer = _ask(_c.write_record, grid(start, step), SAMPLES, samples, record, LONGEST_RECORD)
+    return record.raw[: answer.length]
 
 
-def report(record):
-    """The report of a record, as text. A refused record has a report too."""
-    text = (c_uint8 * LONGEST_REPORT)()
-    answer = _given(_report(*_row(c_uint8, record), text, LONGEST_REPORT))
-    return bytes(text[: answer.length]).decode("ascii")
+def report(record: Row) -> str:
+    """The report of a packed record, as text. A refused record has a report too."""
+    text = create_string_buffer(LONGEST_REPORT)
+    answer = _ask(_c.report, (), BYTES, record, text, LONGEST_REPORT)
+    return text.raw[: answer.length].decode("ascii")
