@@ -1,6 +1,7 @@
 """Every function of the Python package: its values, its refusals, what it takes and what it raises."""
 
 import ctypes
+import doctest
 import pickle
 import typing
 import unittest
@@ -458,6 +459,21 @@ class Numpy(Case):
 
     def test_empty(self):
         self.assertRefused(3, quailribbon.photopic, 380, 1, numpy.zeros(0, numpy.uint32))
+
+
+class Shown(Case):
+    """What the documents show is what is printed."""
+
+    def assertPrinted(self, text, examples):
+        shown = doctest.DocTestParser().get_doctest(text, {}, "shown", None, 0)
+        self.assertEqual(doctest.DocTestRunner().run(shown), (0, examples))
+
+    def test_package(self):
+        self.assertPrinted(quailribbon.__doc__, 4)
+
+    def test_readme(self):
+        readme = Path(__file__).resolve().parents[1] / "README.md"
+        self.assertPrinted(readme.read_text(encoding="utf-8").replace("```", ""), 10)
 
 
 class Hints(Case):
