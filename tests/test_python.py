@@ -2,6 +2,7 @@
 
 import ctypes
 import doctest
+import itertools
 import pickle
 import typing
 import unittest
@@ -246,12 +247,13 @@ class NoNumbers(Case):
     """A ValueError or a TypeError names the argument, or the place in the row."""
 
     def test_settings_that_are_no_whole_numbers(self):
-        arguments = {"observer": 2, "illuminant": 1, "start": 360, "step": 1, "reflectances": WHITE}
-        for name in ("observer", "illuminant", "start", "step"):
-            for wrong in NO_WHOLE_NUMBERS:
+        light = {"observer": 2, "start": 380, "step": 1}
+        panel = {"observer": 2, "illuminant": 1, "start": 360, "step": 1}
+        for call, settings, row in ((quailribbon.xy, light, DARK), (quailribbon.panel_xyz, panel, WHITE)):
+            for name, wrong in itertools.product(settings, NO_WHOLE_NUMBERS):
                 message = f"^{name} must be a whole number, not {type(wrong).__name__}$"
                 with self.subTest(name, wrong=wrong), self.assertRaisesRegex(TypeError, message):
-                    quailribbon.panel_xyz(**{**arguments, name: wrong})
+                    call(*{**settings, name: wrong}.values(), row)
 
     def test_k(self):
         with self.assertRaisesRegex(TypeError, "^k must be a whole number, not float$"):
@@ -321,6 +323,10 @@ class Empty(Case):
             for kind in (_arguments.SAMPLES, _arguments.REFLECTANCES, _arguments.BYTES):
                 with self.subTest(type(row).__name__, kind=kind.name):
                     self.assertGreater(_arguments.row(kind, row)[1], 0)
+
+    def test_pointer_of_a_buffer_that_has_none(self):
+        with mock.patch.multiple(_arguments, _get_buffer=mock.DEFAULT, _release_buffer=mock.DEFAULT):
+            self.assertGreater(_arguments.row(_arguments.SAMPLES, array("I"))[1], 0)
 
 
 class Buffers(Case):
@@ -401,11 +407,12 @@ class Buffers(Case):
         self.assertCopied(_arguments.SAMPLES, samples, _arguments.row(_arguments.BYTES, row)[1] + 1)
         self.assertEqual(quailribbon.photopic(380, 1, samples), 40980)
 
-    def test_floats(self):
-        for letter in "fd":
-            message = f"^a buffer of samples must have whole numbers, not items of format '{letter}'$"
-            with self.subTest(letter), self.assertRaisesRegex(TypeError, message):
-                quailribbon.photopic(380, 1, array(letter, DARK))
+    def test_floats_and_pointers(self):
+        pointers = (ctypes.POINTER(ctypes.c_uint32) * 401)()
+        for row in (array("f", DARK), array("d", DARK), pointers):
+            message = f"^a buffer of samples must have whole numbers, not items of format '{memoryview(row).format}'$"
+            with self.subTest(message), self.assertRaisesRegex(TypeError, message):
+                quailribbon.photopic(380, 1, row)
 
     def test_other_dimensions_than_one(self):
         table = memoryview(array("I", example()).tobytes()).cast("B").cast("I", (1, 401))
