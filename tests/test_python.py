@@ -4,13 +4,18 @@ import ctypes
 import doctest
 import itertools
 import pickle
+import shutil
+import subprocess
+import sys
 import typing
 import unittest
 from array import array
 from collections import UserList, deque
 from decimal import Decimal
 from fractions import Fraction
+from importlib.util import find_spec
 from pathlib import Path
+from tempfile import TemporaryDirectory
 from unittest import mock
 
 import quailribbon
@@ -21,6 +26,7 @@ try:
 except ImportError:
     numpy = None
 
+ROOT = Path(__file__).resolve().parents[1]
 REPORT = "photopic 40980\nscotopic 963900\nX 198616\nY 40980\nZ 1140064\nx 0.14396\ny 0.02970\n"
 DARK = [0] * 401
 WHITE = [10_000] * 471
@@ -306,27 +312,24 @@ class Sequences(Case):
 
 
 class Empty(Case):
-    """An empty row is refused 3 after 1 and 2, and C never sees a null pointer."""
+    """An empty row is refused 3 after 1 and 2, wherever it is."""
 
-    ROWS = ([], (), b"", bytearray(), array("I"), array("q"), memoryview(b""), (ctypes.c_uint32 * 0)())
+    def assertOrder(self, row):
+        self.assertRefused(1, quailribbon.photopic, 380, 3, row)
+        self.assertRefused(2, quailribbon.panel_xyz, 2, 1, 299, 1, row)
+        self.assertRefused(3, quailribbon.photopic, 380, 1, row)
+        self.assertRefused(3, quailribbon.panel_xyz, 2, 1, 360, 1, row)
+        self.assertRefused(12, quailribbon.read_record, row)
 
     def test_order(self):
-        for row in self.ROWS:
+        for row in ([], (), b"", bytearray(), array("I"), array("q"), memoryview(b""), (ctypes.c_uint32 * 0)()):
             with self.subTest(type(row).__name__):
-                self.assertRefused(3, quailribbon.photopic, 380, 1, row)
-                self.assertRefused(1, quailribbon.photopic, 380, 3, row)
-                self.assertRefused(2, quailribbon.panel_xyz, 2, 1, 299, 1, row)
-                self.assertRefused(12, quailribbon.read_record, row)
+                self.assertOrder(row)
 
-    def test_pointer(self):
-        for row in self.ROWS:
-            for kind in (_arguments.SAMPLES, _arguments.REFLECTANCES, _arguments.BYTES):
-                with self.subTest(type(row).__name__, kind=kind.name):
-                    self.assertGreater(_arguments.row(kind, row)[1], 0)
-
-    def test_pointer_of_a_buffer_that_has_none(self):
+    def test_order_at_null(self):
         with mock.patch.multiple(_arguments, _get_buffer=mock.DEFAULT, _release_buffer=mock.DEFAULT):
-            self.assertGreater(_arguments.row(_arguments.SAMPLES, array("I"))[1], 0)
+            self.assertEqual(_arguments.row(_arguments.SAMPLES, array("I"))[1], 0)
+            self.assertOrder(array("I"))
 
 
 class Buffers(Case):
@@ -479,8 +482,20 @@ class Shown(Case):
         self.assertPrinted(quailribbon.__doc__, 4)
 
     def test_readme(self):
-        readme = Path(__file__).resolve().parents[1] / "README.md"
-        self.assertPrinted(readme.read_text(encoding="utf-8").replace("```", ""), 10)
+        readme = (ROOT / "README.md").read_text(encoding="utf-8")
+        self.assertPrinted(readme.replace("```", ""), 10)
+
+
+@unittest.skipUnless(find_spec("setuptools"), "setuptools is missing")
+class Package(Case):
+    def test_says_what_to_do_where_the_library_is_missing(self):
+        with TemporaryDirectory() as folder:
+            setup = Path(folder, "python", "setup.py")
+            setup.parent.mkdir()
+            shutil.copy(ROOT / "python" / "setup.py", setup)
+            built = subprocess.run([sys.executable, setup, "build"], capture_output=True, text=True)
+        self.assertEqual(built.returncode, 1)
+        self.assertRegex(built.stderr, "^.*/libquailribbon.so is not there yet: run .*/build-library, .*\n$")
 
 
 class Hints(Case):

@@ -146,14 +146,11 @@ _release_buffer.argtypes = (POINTER(_Buffer),)
 _release_buffer.restype = None
 _SIMPLE = 0  # PyBUF_SIMPLE: contiguous, and it may be read-only, which ctypes' own from_buffer doesn't take
 
-_nowhere = ctypes.c_uint64()
-_NOT_NULL = ctypes.addressof(_nowhere)
-
 
 def _address(view):
-    """Where a contiguous view's memory is, for as long as the view lives; never null, which C does not take."""
+    """Where a contiguous view's memory is, for as long as the view lives."""
     buffer = _Buffer()
     _get_buffer(view, byref(buffer), _SIMPLE)
     address = buffer.buf
     _release_buffer(byref(buffer))
-    return address or _NOT_NULL
+    return address or 0  # ctypes has None for null, at which an empty row may be
