@@ -6,20 +6,19 @@ use Rattle.mixing.specs.Sum.{total, weighted}
 use Rattle.mixing.proofs.Sum.{weighted-bound, weighted-swap}
 use Rattle.curves.specs.Tables.{illuminantA, illuminantD65}
 use Rattle.curves.specs.Curves.{table, weightOf}
-use Rattle.curves.specs.Columns.{largest}
 use Rattle.curves.specs.Split.{Illuminant}
 use Rattle.curves.specs.declared.Curve.{Curve}
-use Rattle.curves.proofs.Largest.{at-most-largest}
+use Rattle.curves.specs.declared.Curve.the-variants.{IlluminantA, IlluminantD65}
+use Rattle.curves.proofs.Columns.{entry-bound}
 use Rattle.curves.proofs.Sums.{curve-sum}
 
--- the largest entry is computed over each whole table
 pub a-small : Illuminant illuminantA
-unfolding illuminantA largest
-a-small k = le-trans (at-most-largest illuminantA k) (lit≤ tt)
+unfolding table
+a-small k = entry-bound IlluminantA k
 
 pub d65-small : Illuminant illuminantD65
-unfolding illuminantD65 largest
-d65-small k = le-trans (at-most-largest illuminantD65 k) (lit≤ tt)
+unfolding table
+d65-small k = le-trans (entry-bound IlluminantD65 k) (lit≤ tt)
 
 pub lit-sum :
     (illuminant c : Curve) → Illuminant (table illuminant) →

@@ -4,7 +4,6 @@ pub mod Filled
 pub mod Product
 pub mod Split
 pub mod Illuminants
-pub mod Halves
-pub mod Lengths
 pub mod Largest
+pub mod Columns
 pub mod Sums

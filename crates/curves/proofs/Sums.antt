@@ -5,23 +5,25 @@ use native.Mathlib.Nat.{le-refl, le-trans, mul-le-mul-left}
 use lib.Dec.{lit≤}
 use Rattle.mixing.specs.Sum.{total, weighted}
 use Rattle.mixing.proofs.Sum.{weighted-bound}
-use Rattle.curves.specs.Tables.{xBar, yBar, zBar, xBar10, yBar10, zBar10, vPrime, illuminantA, illuminantD65}
-use Rattle.curves.specs.Curves.{table, weightOf, entryOf, Row}
+use Rattle.curves.specs.Curves.{weightOf, entryOf, Row}
+use Rattle.curves.specs.Columns.{tableSum}
+use Rattle.curves.proofs.Columns.{column-total}
 use Rattle.curves.specs.declared.Curve.{Curve}
 use Rattle.curves.specs.declared.Curve.the-variants.{XBar, YBar, ZBar, XBar10, YBar10, ZBar10, VPrime, IlluminantA, IlluminantD65}
 
--- computed over each whole table
 pub curve-sum : (c : Curve) → total 471 (weightOf c) ≤ 2000000000000000
-unfolding total table xBar yBar zBar xBar10 yBar10 zBar10 vPrime illuminantA illuminantD65
-curve-sum XBar = lit≤ tt
-curve-sum YBar = lit≤ tt
-curve-sum ZBar = lit≤ tt
-curve-sum XBar10 = lit≤ tt
-curve-sum YBar10 = lit≤ tt
-curve-sum ZBar10 = lit≤ tt
-curve-sum VPrime = lit≤ tt
-curve-sum IlluminantA = lit≤ tt
-curve-sum IlluminantD65 = lit≤ tt
+curve-sum c = rw (column-total c) (few c)
+  where
+    few : (c : Curve) → tableSum c ≤ 2000000000000000
+    few XBar = lit≤ tt
+    few YBar = lit≤ tt
+    few ZBar = lit≤ tt
+    few XBar10 = lit≤ tt
+    few YBar10 = lit≤ tt
+    few ZBar10 = lit≤ tt
+    few VPrime = lit≤ tt
+    few IlluminantA = lit≤ tt
+    few IlluminantD65 = lit≤ tt
 
 pub light-sum : (c : Curve) (row : List ℕ) → Row row → weighted 471 (weightOf c) (entryOf row) ≤ 20000000000000000000000
 light-sum c row small =

@@ -1,11 +1,13 @@
 -- Laws of sums over places: equal and ordered terms, sums of sums, and a factor.
 use mathlib.Core.Path.{_≡_, refl, _∙_, sym, ap, ap₂}
+use mathlib.Core.List.{List, [], _∷_}
 use Prim.Native.Nat.{ℕ, zero, suc, _+_, _*_, _/_, _%_, _≤_, _<_}
 use native.Mathlib.Nat.{le-refl, le-trans, le-of-eq, add-le-add, mul-add, mul-zero, mul-comm, mul-le-mul-right, div-add-mod'}
 use native.Mathlib.Numerals.{add-one}
 use native.Mathlib.Decide.{le-ind}
 use native.Mathlib.Omega.{arith}
-use Rattle.mixing.specs.Sum.{total, weighted}
+use lib.ListN.{length, getD}
+use Rattle.mixing.specs.Sum.{total, weighted, sumOf}
 
 pub total-ext : (n : ℕ) (f g : ℕ → ℕ) → ((k : ℕ) → k < n → f k ≡ g k) → total n f ≡ total n g
 unfolding total
@@ -31,6 +33,18 @@ pub total-mul : (c n : ℕ) (f : ℕ → ℕ) → total n (λ k. c * f k) ≡ c 
 unfolding total
 total-mul c zero f = sym (mul-zero c)
 total-mul c (suc n) f = ap (λ (x : ℕ). x + c * f n) (total-mul c n f) ∙ sym (mul-add c (total n f) (f n))
+
+-- the first place apart
+total-first : (n : ℕ) (f : ℕ → ℕ) → total (suc n) f ≡ f 0 + total n (λ k. f (suc k))
+unfolding total
+total-first zero f = omega arith
+total-first (suc n) f = let ih : total (suc n) f ≡ f 0 + total n (λ k. f (suc k)) = total-first n f in omega arith
+
+-- a list's entries add up to its sum
+pub total-list : (xs : List ℕ) → total (length xs) (λ k. getD xs k 0) ≡ sumOf xs
+unfolding total sumOf
+total-list [] = refl
+total-list (x ∷ xs) = total-first (length xs) (λ k. getD (x ∷ xs) k 0) ∙ ap (λ (y : ℕ). x + y) (total-list xs)
 
 -- more places add up to no less
 pub total-more : (k n : ℕ) (f : ℕ → ℕ) → k ≤ n → total k f ≤ total n f

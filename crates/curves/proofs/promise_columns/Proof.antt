@@ -1,33 +1,27 @@
--- Length, sum and largest entry are computed over the whole of each table; the bound is one law for all.
-use mathlib.Core.Path.{refl}
+-- Everything is the columns' own; the printed sums are the exact ones, rounded.
+use mathlib.Core.Path.{_≡_, refl}
 use Rattle.mixing.specs.Nearest.{nearest}
-use Rattle.mixing.specs.Sum.{sumOf}
-use Rattle.curves.specs.Tables.{xBar, yBar, zBar, xBar10, yBar10, zBar10, vPrime, illuminantA, illuminantD65}
-use Rattle.curves.specs.Columns.{largest}
+use Rattle.curves.specs.Tables.{xBar, yBar, zBar, xBar10, yBar10, zBar10}
+use Rattle.curves.specs.Curves.{table}
+use Rattle.curves.specs.Columns.{Columns}
+use Rattle.curves.specs.declared.Curve.the-variants.{XBar, YBar, ZBar, XBar10, YBar10, ZBar10}
 use Rattle.curves.proofs.Largest.{at-most-largest}
+use Rattle.curves.proofs.Columns.{column}
 use Rattle.curves.proofs.promise_columns.Statement.{statement}
 use Rattle.curves.proofs.promise_columns.Tie as tie
 
 returns : tie.Need-returns
-unfolding nearest sumOf largest xBar yBar zBar xBar10 yBar10 zBar10 vPrime illuminantA illuminantD65
+unfolding nearest table
 returns c =
     record {
       bounded = at-most-largest;
-      x̄ = record { entries = refl; adds-up = refl; largest-is = refl };
-      ȳ = record { entries = refl; adds-up = refl; largest-is = refl };
-      z̄ = record { entries = refl; adds-up = refl; largest-is = refl };
-      x̄10 = record { entries = refl; adds-up = refl; largest-is = refl };
-      ȳ10 = record { entries = refl; adds-up = refl; largest-is = refl };
-      z̄10 = record { entries = refl; adds-up = refl; largest-is = refl };
-      V′ = record { entries = refl; adds-up = refl; largest-is = refl };
-      A = record { entries = refl; adds-up = refl; largest-is = refl };
-      D65 = record { entries = refl; adds-up = refl; largest-is = refl };
-      x̄-printed = refl;
-      ȳ-printed = refl;
-      z̄-printed = refl;
-      x̄10-printed = refl;
-      ȳ10-printed = refl;
-      z̄10-printed = refl;
+      column = column;
+      x̄-printed = rw (column XBar .adds-up);
+      ȳ-printed = rw (column YBar .adds-up);
+      z̄-printed = rw (column ZBar .adds-up);
+      x̄10-printed = rw (column XBar10 .adds-up);
+      ȳ10-printed = rw (column YBar10 .adds-up);
+      z̄10-printed = rw (column ZBar10 .adds-up);
     }
 
 pub promise-columns-spec : {M : Type 1} → statement M

@@ -5,7 +5,7 @@ use native.Mathlib.Omega.{arith}
 use borrow.Author.Needs.{needs}
 use lib.ListN.{length, getD, List·getD-eq-default}
 use Rattle.curves.specs.Curves.{table}
-use Rattle.curves.proofs.Lengths.{table-long}
+use Rattle.curves.proofs.Columns.{column}
 use Rattle.curves.proofs.weight.Statement.{statement}
 use Rattle.curves.proofs.weight.Tie as tie
 
@@ -24,7 +24,7 @@ returns c = ap (λ t. getD t (c .before .before .args .place) 0) (c .before .tab
 returns-2 : tie.Need-returns-2
 returns-2 c =
     let t = c .before .before .args in
-    let long = table-long (t .curve) in
+    let long = column (t .curve) .entries in
     let past : length (table (t .curve)) ≤ t .place = (let h = c .if1 .left in omega arith) in
     sym (List·getD-eq-default (table (t .curve)) 0 past)
 

@@ -1,21 +1,22 @@
 -- The tables that are lent are the observer's.
 use Rattle.curves.specs.Tables.{xBar10, yBar10, zBar10}
 use Rattle.curves.specs.Curves.{table}
-use Rattle.curves.proofs.Halves.{xBar10-halves, yBar10-halves, zBar10-halves}
+use Rattle.curves.specs.declared.Curve.the-variants.{XBar10, YBar10, ZBar10}
+use Rattle.curves.proofs.Columns.{column}
 use Rattle.curves.proofs.lit.sums_10.Statement.{statement}
 use Rattle.curves.proofs.lit.sums_10.Tie as tie
 
 split-sum-requires : tie.Need-split-sum-requires
-unfolding xBar10
-split-sum-requires c κs = (xBar10-halves, c .before .pre .0, c .before .pre .1)
+unfolding table xBar10
+split-sum-requires c κs = (column XBar10 .halves, c .before .pre .0, c .before .pre .1)
 
 split-sum-requires-2 : tie.Need-split-sum-requires-2
-unfolding yBar10
-split-sum-requires-2 c κs = (yBar10-halves, c .before .before .before .pre .0, c .before .before .before .pre .1)
+unfolding table yBar10
+split-sum-requires-2 c κs = (column YBar10 .halves, c .before .before .before .pre .0, c .before .before .before .pre .1)
 
 split-sum-requires-3 : tie.Need-split-sum-requires-3
-unfolding zBar10
-split-sum-requires-3 c κs = (zBar10-halves, c .before .before .before .before .before .pre .0, c .before .before .before .before .before .pre .1)
+unfolding table zBar10
+split-sum-requires-3 c κs = (column ZBar10 .halves, c .before .before .before .before .before .pre .0, c .before .before .before .before .before .pre .1)
 
 returns : tie.Need-returns
 unfolding table xBar10 yBar10 zBar10

@@ -1,21 +1,22 @@
 -- The tables that are lent are the observer's.
 use Rattle.curves.specs.Tables.{xBar, yBar, zBar}
 use Rattle.curves.specs.Curves.{table}
-use Rattle.curves.proofs.Halves.{xBar-halves, yBar-halves, zBar-halves}
+use Rattle.curves.specs.declared.Curve.the-variants.{XBar, YBar, ZBar}
+use Rattle.curves.proofs.Columns.{column}
 use Rattle.curves.proofs.lit.sums_2.Statement.{statement}
 use Rattle.curves.proofs.lit.sums_2.Tie as tie
 
 split-sum-requires : tie.Need-split-sum-requires
-unfolding xBar
-split-sum-requires c κs = (xBar-halves, c .before .pre .0, c .before .pre .1)
+unfolding table xBar
+split-sum-requires c κs = (column XBar .halves, c .before .pre .0, c .before .pre .1)
 
 split-sum-requires-2 : tie.Need-split-sum-requires-2
-unfolding yBar
-split-sum-requires-2 c κs = (yBar-halves, c .before .before .before .pre .0, c .before .before .before .pre .1)
+unfolding table yBar
+split-sum-requires-2 c κs = (column YBar .halves, c .before .before .before .pre .0, c .before .before .before .pre .1)
 
 split-sum-requires-3 : tie.Need-split-sum-requires-3
-unfolding zBar
-split-sum-requires-3 c κs = (zBar-halves, c .before .before .before .before .before .pre .0, c .before .before .before .before .before .pre .1)
+unfolding table zBar
+split-sum-requires-3 c κs = (column ZBar .halves, c .before .before .before .before .before .pre .0, c .before .before .before .before .before .pre .1)
 
 returns : tie.Need-returns
 unfolding table xBar yBar zBar

@@ -1,12 +1,14 @@
 -- The table that is lent is the definition's.
 use Rattle.curves.specs.Tables.{illuminantA}
-use Rattle.curves.proofs.Halves.{illuminantA-halves}
+use Rattle.curves.specs.Curves.{table}
+use Rattle.curves.specs.declared.Curve.the-variants.{IlluminantA}
+use Rattle.curves.proofs.Columns.{column}
 use Rattle.curves.proofs.weigh.by_illuminant_a.Statement.{statement}
 use Rattle.curves.proofs.weigh.by_illuminant_a.Tie as tie
 
 sum-requires : tie.Need-sum-requires
-unfolding illuminantA
-sum-requires c κs = (illuminantA-halves, c .before .pre)
+unfolding table illuminantA
+sum-requires c κs = (column IlluminantA .halves, c .before .pre)
 
 returns : tie.Need-returns
 unfolding illuminantA

@@ -1,12 +1,14 @@
 -- The table that is lent is the definition's.
 use Rattle.curves.specs.Tables.{xBar}
-use Rattle.curves.proofs.Halves.{xBar-halves}
+use Rattle.curves.specs.Curves.{table}
+use Rattle.curves.specs.declared.Curve.the-variants.{XBar}
+use Rattle.curves.proofs.Columns.{column}
 use Rattle.curves.proofs.weigh.by_x_bar.Statement.{statement}
 use Rattle.curves.proofs.weigh.by_x_bar.Tie as tie
 
 sum-requires : tie.Need-sum-requires
-unfolding xBar
-sum-requires c κs = (xBar-halves, c .before .pre)
+unfolding table xBar
+sum-requires c κs = (column XBar .halves, c .before .pre)
 
 returns : tie.Need-returns
 unfolding xBar

@@ -1,12 +1,14 @@
 -- The table that is lent is the definition's.
 use Rattle.curves.specs.Tables.{xBar10}
-use Rattle.curves.proofs.Halves.{xBar10-halves}
+use Rattle.curves.specs.Curves.{table}
+use Rattle.curves.specs.declared.Curve.the-variants.{XBar10}
+use Rattle.curves.proofs.Columns.{column}
 use Rattle.curves.proofs.weigh.by_x_bar_10.Statement.{statement}
 use Rattle.curves.proofs.weigh.by_x_bar_10.Tie as tie
 
 sum-requires : tie.Need-sum-requires
-unfolding xBar10
-sum-requires c κs = (xBar10-halves, c .before .pre)
+unfolding table xBar10
+sum-requires c κs = (column XBar10 .halves, c .before .pre)
 
 returns : tie.Need-returns
 unfolding xBar10

@@ -1,12 +1,14 @@
 -- The table that is lent is the definition's.
 use Rattle.curves.specs.Tables.{yBar}
-use Rattle.curves.proofs.Halves.{yBar-halves}
+use Rattle.curves.specs.Curves.{table}
+use Rattle.curves.specs.declared.Curve.the-variants.{YBar}
+use Rattle.curves.proofs.Columns.{column}
 use Rattle.curves.proofs.weigh.by_y_bar.Statement.{statement}
 use Rattle.curves.proofs.weigh.by_y_bar.Tie as tie
 
 sum-requires : tie.Need-sum-requires
-unfolding yBar
-sum-requires c κs = (yBar-halves, c .before .pre)
+unfolding table yBar
+sum-requires c κs = (column YBar .halves, c .before .pre)
 
 returns : tie.Need-returns
 unfolding yBar

@@ -1,12 +1,14 @@
 -- The table that is lent is the definition's.
 use Rattle.curves.specs.Tables.{yBar10}
-use Rattle.curves.proofs.Halves.{yBar10-halves}
+use Rattle.curves.specs.Curves.{table}
+use Rattle.curves.specs.declared.Curve.the-variants.{YBar10}
+use Rattle.curves.proofs.Columns.{column}
 use Rattle.curves.proofs.weigh.by_y_bar_10.Statement.{statement}
 use Rattle.curves.proofs.weigh.by_y_bar_10.Tie as tie
 
 sum-requires : tie.Need-sum-requires
-unfolding yBar10
-sum-requires c κs = (yBar10-halves, c .before .pre)
+unfolding table yBar10
+sum-requires c κs = (column YBar10 .halves, c .before .pre)
 
 returns : tie.Need-returns
 unfolding yBar10

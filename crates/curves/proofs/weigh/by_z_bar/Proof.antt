@@ -1,12 +1,14 @@
 -- The table that is lent is the definition's.
 use Rattle.curves.specs.Tables.{zBar}
-use Rattle.curves.proofs.Halves.{zBar-halves}
+use Rattle.curves.specs.Curves.{table}
+use Rattle.curves.specs.declared.Curve.the-variants.{ZBar}
+use Rattle.curves.proofs.Columns.{column}
 use Rattle.curves.proofs.weigh.by_z_bar.Statement.{statement}
 use Rattle.curves.proofs.weigh.by_z_bar.Tie as tie
 
 sum-requires : tie.Need-sum-requires
-unfolding zBar
-sum-requires c κs = (zBar-halves, c .before .pre)
+unfolding table zBar
+sum-requires c κs = (column ZBar .halves, c .before .pre)
 
 returns : tie.Need-returns
 unfolding zBar

@@ -1,12 +1,14 @@
 -- The table that is lent is the definition's.
 use Rattle.curves.specs.Tables.{zBar10}
-use Rattle.curves.proofs.Halves.{zBar10-halves}
+use Rattle.curves.specs.Curves.{table}
+use Rattle.curves.specs.declared.Curve.the-variants.{ZBar10}
+use Rattle.curves.proofs.Columns.{column}
 use Rattle.curves.proofs.weigh.by_z_bar_10.Statement.{statement}
 use Rattle.curves.proofs.weigh.by_z_bar_10.Tie as tie
 
 sum-requires : tie.Need-sum-requires
-unfolding zBar10
-sum-requires c κs = (zBar10-halves, c .before .pre)
+unfolding table zBar10
+sum-requires c κs = (column ZBar10 .halves, c .before .pre)
 
 returns : tie.Need-returns
 unfolding zBar10
