@@ -40,9 +40,11 @@ filledDown above (suc x ∷ xs) = suc x ∷ filledDown (suc x) xs
 abbrev pub zFilled : ℕ → ℕ → List ℕ → ℕ
 zFilled a s xs = nearest (683 * weighted 471 (entryOf (filledDown 0 zBar)) (λ k. T a s xs (360 + k))) (s * 10 ^ 16)
 
--- the version gives one number, and value i of what was asked is another
-abbrev pub Apart : ℕ → ℕ → Asked → ℕ → ℕ → Type 0
-Apart version slip asked i ours = (version ≡ slip) × (value (answerOf asked) i ≡ ours)
+-- what the version gives is not value i of what was asked: the one is `slip`, the other `ours`
+pub record Apart (version slip : ℕ) (asked : Asked) (i ours : ℕ) : Type 0 where
+  pub gives : version ≡ slip
+  pub is : value (answerOf asked) i ≡ ours
+  pub not-ours : version ≡ value (answerOf asked) i → ⊥
 
 pub record Slips : Type 0 where
   pub x-from-rounded :

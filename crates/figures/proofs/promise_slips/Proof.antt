@@ -1,5 +1,7 @@
--- Both numbers of each slip are computed.
-use mathlib.Core.Path.{refl}
+-- Both numbers of each slip are computed, and they are not the same.
+use mathlib.Core.Path.{_≡_, refl, sym, _∙_}
+use Prim.Native.Nat.{ℕ}
+use native.Mathlib.Omega.{arith}
 use Rattle.grid.specs.Check.{gridCheck, limitCheck, lightCheck}
 use Rattle.mixing.specs.Nearest.{nearest}
 use Rattle.mixing.specs.Sum.{total, weighted}
@@ -13,14 +15,17 @@ use Rattle.figures.specs.Slips.{filledDown}
 use Rattle.figures.proofs.promise_slips.Statement.{statement}
 use Rattle.figures.proofs.promise_slips.Tie as tie
 
+differ : {version ours : ℕ} {m n : ℕ} → version ≡ m → ours ≡ n → (m ≡ n → ⊥) → version ≡ ours → ⊥
+differ p q apart e = apart (sym p ∙ e ∙ q)
+
 returns : tie.Need-returns
 unfolding answerOf filledDown illuminanceOf xyzOf xyOf readingFrom xyzFrom xyFrom lightCheck gridCheck limitCheck W weighted total T lineAt endRule table xBar yBar zBar nearest
 returns c = record {
-  x-from-rounded = (refl, refl);
-  each-rounded = (refl, refl);
-  at-samples = (refl, refl);
-  divided-early = (refl, refl);
-  filled-down = (refl, refl);
+  x-from-rounded = record { gives = refl; is = refl; not-ours = differ refl refl (λ e. omega arith) };
+  each-rounded = record { gives = refl; is = refl; not-ours = differ refl refl (λ e. omega arith) };
+  at-samples = record { gives = refl; is = refl; not-ours = differ refl refl (λ e. omega arith) };
+  divided-early = record { gives = refl; is = refl; not-ours = differ refl refl (λ e. omega arith) };
+  filled-down = record { gives = refl; is = refl; not-ours = differ refl refl (λ e. omega arith) };
 }
 
 pub promise-slips-spec : {M : Type 1} → statement M
