@@ -34,17 +34,17 @@ use Rattle.quailribbon.proofs.records.qr_report.Reads as qr-report
 
 -- a contract says of lifetimes, arguments, result and what is lent at exit whether it allows them;
 -- of any two results that it allows for the same arguments, one is the other
-abbrev OneResult : {K A R E : Type 0} → (K → A → R → E → Type 0) → Type 0
+abbrev pub OneResult : {K A R E : Type 0} → (K → A → R → E → Type 0) → Type 0
 OneResult {K} {A} {R} {E} Allows =
     (k : K) (a : A) (r q : R) (e f : E) → Allows k a r e → Allows k a q f → r ≡ q
 
 -- and so of any two states in which a lent row, bytes or text may be left
-abbrev OneExit : {K A R E : Type 0} → (E → List ℕ) → (K → A → R → E → Type 0) → Type 0
+abbrev pub OneExit : {K A R E : Type 0} → (E → List ℕ) → (K → A → R → E → Type 0) → Type 0
 OneExit {K} {A} {R} {E} lent Allows =
     (k : K) (a : A) (r q : R) (e f : E) → Allows k a r e → Allows k a q f → lent e ≡ lent f
 
 -- two that equal the same definition are equal
-same : {A : Type 0} {x y defined : A} → x ≡ defined → y ≡ defined → x ≡ y
+pub same : {A : Type 0} {x y defined : A} → x ≡ defined → y ≡ defined → x ≡ y
 same p q = p ∙ sym q
 
 -- readings

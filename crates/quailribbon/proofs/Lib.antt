@@ -1,2 +1,3 @@
 -- Laws of the flat answers.
 pub mod Determined
+pub mod DeterminedLeaves

@@ -1,0 +1,191 @@
+-- The open functions between crates are determined too: two results that a contract allows for the same arguments are
+-- equal. `Determined` shows it of the functions that face callers.
+use mathlib.Core.Path.{_≡_, refl}
+use mathlib.Core.List.{List}
+use Prim.Native.Nat.{ℕ, _^_, _<_}
+use native.Mathlib.Omega.{arith}
+use lib.ListN.{length, getD}
+use lib.Seq.{ext-getD}
+use Rattle.exact.specs.declared.digits.Short.{Short}
+use Rattle.exact.specs.declared.digits.Long.{Long}
+use Rattle.exact.specs.Value.{short, long}
+use Rattle.curves.specs.declared.weigh.Sums.{Sums}
+use Rattle.quailribbon.proofs.Determined.{OneResult, OneExit, same}
+use Rattle.exact.proofs.digits.joined.Reads as joined
+use Rattle.exact.proofs.digits.times_plus.Reads as times-plus
+use Rattle.exact.proofs.digits.narrow.Reads as narrow
+use Rattle.exact.proofs.digits.short_times_plus.Reads as short-times-plus
+use Rattle.exact.proofs.digits.half.Reads as half
+use Rattle.exact.proofs.divide.nearest.Reads as nearest
+use Rattle.exact.proofs.divide.quotient.Reads as quotient
+use Rattle.exact.proofs.divide.is_zero.Reads as is-zero
+use Rattle.grid.proofs.refused.Reads as refused
+use Rattle.grid.proofs.check_grid.Reads as check-grid
+use Rattle.grid.proofs.is_observer.Reads as is-observer
+use Rattle.grid.proofs.check_light.Reads as check-light
+use Rattle.grid.proofs.check_samples.Reads as check-samples
+use Rattle.grid.proofs.check_limit.Reads as check-limit
+use Rattle.curves.proofs.weight.Reads as weight
+use Rattle.curves.proofs.weigh.weigh.Reads as weigh
+use Rattle.curves.proofs.lit.lit_by_a.Reads as lit-by-a
+use Rattle.curves.proofs.lit.lit_by_d65.Reads as lit-by-d65
+use Rattle.curves.proofs.lit.sums_2.Reads as sums-2
+use Rattle.curves.proofs.lit.sums_10.Reads as sums-10
+use Rattle.spectrum.proofs.line.row_of.Reads as row-of
+use Rattle.answers.proofs.sums.row_sums.Reads as row-sums
+use Rattle.answers.proofs.work.reading_from.Reads as reading-from
+use Rattle.answers.proofs.work.xyz_from.Reads as xyz-from
+use Rattle.answers.proofs.work.xy_from.Reads as xy-from
+use Rattle.answers.proofs.work.on_chart.Reads as on-chart
+
+-- The contract of a number in digits gives its value, which fixes the digits since each below the highest fits its field.
+-- That a u32 is below 2^32 and a u64 below 2^64 is said by the result's type, and no contract repeats it; so here it is
+-- said of both results.
+abbrev Fitting : {K A R E : Type 0} → (R → Type 0) → (K → A → R → E → Type 0) → K → A → R → E → Type 0
+Fitting Fits Allows k a r e = Fits r × Allows k a r e
+
+abbrev ShortFits : Short → Type 0
+ShortFits a = (a .middle < 2 ^ 32) × (a .low < 2 ^ 32)
+
+abbrev LongFits : Long → Type 0
+LongFits a = a .low < 2 ^ 64
+
+same-short : {r q : Short} → ShortFits r → ShortFits q → short r ≡ short q → r ≡ q
+unfolding short
+same-short {r} {q} d g e =
+    let high : r .high ≡ q .high = omega arith in
+    let middle : r .middle ≡ q .middle = omega arith in
+    let low : r .low ≡ q .low = omega arith in
+    λ i. record { high = high i; middle = middle i; low = low i }
+
+same-long : {r q : Long} → LongFits r → LongFits q → long r ≡ long q → r ≡ q
+unfolding long
+same-long {r} {q} d g e =
+    let high : r .high ≡ q .high = omega arith in
+    let low : r .low ≡ q .low = omega arith in
+    λ i. record { high = high i; low = low i }
+
+pub record SumsFit (sums : Sums) : Type 0 where
+  pub x : ShortFits (sums .x)
+  pub y : ShortFits (sums .y)
+  pub z : ShortFits (sums .z)
+
+same-sums : {r q : Sums} → SumsFit r → SumsFit q → short (r .x) ≡ short (q .x) → short (r .y) ≡ short (q .y)
+    → short (r .z) ≡ short (q .z) → r ≡ q
+same-sums {r} {q} d g ex ey ez =
+    let x : r .x ≡ q .x = same-short (d .x) (g .x) ex in
+    let y : r .y ≡ q .y = same-short (d .y) (g .y) ey in
+    let z : r .z ≡ q .z = same-short (d .z) (g .z) ez in
+    λ i. record { x = x i; y = y i; z = z i }
+
+-- Likewise the contract of a filled row gives each of its 471 places, and the row's type that there are no others.
+abbrev Kept : {K A R E : Type 0} → (E → List ℕ) → (K → A → R → E → Type 0) → K → A → R → E → Type 0
+Kept lent Allows k a r e = (length (lent e) ≡ 471) × Allows k a r e
+
+same-row : {xs ys : List ℕ} (place : ℕ → ℕ) → length xs ≡ 471 → length ys ≡ 471
+    → ((k : ℕ) → k < 471 → getD xs k 0 ≡ place k) → ((k : ℕ) → k < 471 → getD ys k 0 ≡ place k) → xs ≡ ys
+same-row {xs} {ys} place m n p q =
+    ext-getD 0 xs ys (same m n) (λ k b. let h : k < 471 = omega arith in same (p k h) (q k h))
+
+-- exact
+
+one-joined : OneResult (Fitting ShortFits joined.Post)
+one-joined k a r q e f p s = same-short (p .0) (s .0) (same (p .1) (s .1))
+
+one-times-plus : OneResult (Fitting LongFits times-plus.Post)
+one-times-plus k a r q e f p s = same-long (p .0) (s .0) (same (p .1) (s .1))
+
+one-narrow : OneResult (Fitting ShortFits narrow.Post)
+one-narrow k a r q e f p s = same-short (p .0) (s .0) (same (p .1) (s .1))
+
+one-short-times-plus : OneResult (Fitting ShortFits short-times-plus.Post)
+one-short-times-plus k a r q e f p s = same-short (p .0) (s .0) (same (p .1) (s .1))
+
+one-half : OneResult (Fitting ShortFits half.Post)
+one-half k a r q e f p s = same-short (p .0) (s .0) (same (p .1) (s .1))
+
+one-nearest : OneResult nearest.Post
+one-nearest k a r q e f p s = same p s
+
+one-quotient : OneResult quotient.Post
+one-quotient k a r q e f p s = same p s
+
+one-is-zero : OneResult is-zero.Post
+one-is-zero k a r q e f p s = same p s
+
+-- grid
+
+one-refused : OneResult refused.Post
+one-refused k a r q e f p s = same p s
+
+one-check-grid : OneResult check-grid.Post
+one-check-grid k a r q e f p s = same p s
+
+one-is-observer : OneResult is-observer.Post
+one-is-observer k a r q e f p s = same p s
+
+one-check-light : OneResult check-light.Post
+one-check-light k a r q e f p s = same p s
+
+one-check-samples : OneResult check-samples.Post
+one-check-samples k a r q e f p s = same p s
+
+one-check-limit : OneResult check-limit.Post
+one-check-limit k a r q e f p s = same p s
+
+-- curves
+
+one-weight : OneResult weight.Post
+one-weight k a r q e f p s = same p s
+
+one-weigh : OneResult (Fitting ShortFits weigh.Post)
+one-weigh k a r q e f p s = same-short (p .0) (s .0) (same (p .1) (s .1))
+
+one-lit-by-a : OneResult lit-by-a.Post
+one-lit-by-a k a r q e f p s = refl
+
+left-lit-by-a-high : OneExit (λ e. e .1 .0 .now) (Kept (λ e. e .1 .0 .now) lit-by-a.Post)
+left-lit-by-a-high k a r q e f p s = same-row _ (p .0) (s .0) (p .1 .upper) (s .1 .upper)
+
+left-lit-by-a-low : OneExit (λ e. e .1 .1 .0 .now) (Kept (λ e. e .1 .1 .0 .now) lit-by-a.Post)
+left-lit-by-a-low k a r q e f p s = same-row _ (p .0) (s .0) (p .1 .lower) (s .1 .lower)
+
+one-lit-by-d65 : OneResult lit-by-d65.Post
+one-lit-by-d65 k a r q e f p s = refl
+
+left-lit-by-d65-high : OneExit (λ e. e .1 .0 .now) (Kept (λ e. e .1 .0 .now) lit-by-d65.Post)
+left-lit-by-d65-high k a r q e f p s = same-row _ (p .0) (s .0) (p .1 .upper) (s .1 .upper)
+
+left-lit-by-d65-low : OneExit (λ e. e .1 .1 .0 .now) (Kept (λ e. e .1 .1 .0 .now) lit-by-d65.Post)
+left-lit-by-d65-low k a r q e f p s = same-row _ (p .0) (s .0) (p .1 .lower) (s .1 .lower)
+
+one-sums-2 : OneResult (Fitting SumsFit sums-2.Post)
+one-sums-2 k a r q e f p s =
+    same-sums (p .0) (s .0) (same (p .1 .x) (s .1 .x)) (same (p .1 .y) (s .1 .y)) (same (p .1 .z) (s .1 .z))
+
+one-sums-10 : OneResult (Fitting SumsFit sums-10.Post)
+one-sums-10 k a r q e f p s =
+    same-sums (p .0) (s .0) (same (p .1 .x) (s .1 .x)) (same (p .1 .y) (s .1 .y)) (same (p .1 .z) (s .1 .z))
+
+-- spectrum
+
+one-row-of : OneResult row-of.Post
+one-row-of k a r q e f p s = same p s
+
+-- answers
+
+one-row-sums : OneResult (Fitting SumsFit row-sums.Post)
+one-row-sums k a r q e f p s =
+    same-sums (p .0) (s .0) (same (p .1 .x) (s .1 .x)) (same (p .1 .y) (s .1 .y)) (same (p .1 .z) (s .1 .z))
+
+one-reading-from : OneResult reading-from.Post
+one-reading-from k a r q e f p s = same p s
+
+one-xyz-from : OneResult xyz-from.Post
+one-xyz-from k a r q e f p s = same p s
+
+one-xy-from : OneResult xy-from.Post
+one-xy-from k a r q e f p s = same p s
+
+one-on-chart : OneResult on-chart.Post
+one-on-chart k a r q e f p s = same p s
