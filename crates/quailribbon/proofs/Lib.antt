@@ -1,3 +1,3 @@
--- Laws of the flat answers.
+-- That every contract determines its function.
 pub mod Determined
 pub mod DeterminedLeaves
