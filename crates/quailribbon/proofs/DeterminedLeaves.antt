@@ -31,7 +31,8 @@ use Rattle.curves.proofs.lit.lit_by_a.Reads as lit-by-a
 use Rattle.curves.proofs.lit.lit_by_d65.Reads as lit-by-d65
 use Rattle.curves.proofs.lit.sums_2.Reads as sums-2
 use Rattle.curves.proofs.lit.sums_10.Reads as sums-10
-use Rattle.spectrum.proofs.line.row_of.Reads as row-of
+use Rattle.spectrum.proofs.line.begin_at_360.Reads as begin-at-360
+use Rattle.spectrum.proofs.line.row_from.Reads as row-from
 use Rattle.answers.proofs.sums.row_sums.Reads as row-sums
 use Rattle.answers.proofs.work.reading_from.Reads as reading-from
 use Rattle.answers.proofs.work.xyz_from.Reads as xyz-from
@@ -169,8 +170,14 @@ one-sums-10 k a r q e f p s =
 
 -- spectrum
 
-one-row-of : OneResult row-of.Post
-one-row-of k a r q e f p s = same p s
+one-begin-at-360 : OneResult begin-at-360.Post
+one-begin-at-360 k a r q e f p s =
+    let place = same (p .place) (s .place) in
+    let wavelength = same (p .wavelength) (s .wavelength) in
+    λ i. record { place = place i; wavelength = wavelength i }
+
+one-row-from : OneResult row-from.Post
+one-row-from k a r q e f p s = same p s
 
 -- answers
 
