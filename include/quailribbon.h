@@ -10,7 +10,8 @@
  *
  * A call that succeeds writes exactly what it reports into the lent memory and nothing behind it; one that is refused
  * leaves it as it was. What is lent for writing may not overlap what is lent for reading in the same call. A row of
- * length 0 may have any pointer, a null one too: it is an empty row.
+ * length 0 may have any pointer, a null one too: it is an empty row, which is COUNT as samples or reflectances, LENGTH as
+ * a record, and ROOM where something is to be written, each in its turn among the refusals.
  */
 #ifndef QUAILRIBBON_H
 #define QUAILRIBBON_H
@@ -70,7 +71,8 @@ qr_xyz_answer qr_panel_xyz(uint32_t observer, uint32_t illuminant, uint32_t star
 qr_xy_answer qr_panel_xy(uint32_t observer, uint32_t illuminant, uint32_t start, uint32_t step, const uint16_t *reflectances, size_t count);
 qr_chart_answer qr_panel_chart(uint32_t observer, uint32_t illuminant, uint32_t start, uint32_t step, const uint16_t *reflectances, size_t count);
 
-/* The report's figures of a light in one call, at observer 2; xy_number is that of x and y: 0, or 9 where they are dark. */
+/* The report's figures of a light in one call, at observer 2. Where number is 0, xy_number is that of x and y: 0, or 9
+   where they are dark. */
 qr_figures_answer qr_figures(uint32_t start, uint32_t step, const uint32_t *samples, size_t count);
 
 /* A packed record: read into the lent row of `room` samples, written into the lent `room` bytes. */

@@ -16,8 +16,8 @@ def _load():
     named = os.environ.get("QUAILRIBBON_LIBRARY")
     near = [here / "libquailribbon.so", here.parents[1] / "lib" / "libquailribbon.so"]
     found = [named] if named else [str(path) for path in near if path.exists()]
-    # A PyDLL's calls keep the interpreter's lock, which they can for their few microseconds: so no other thread changes
-    # a lent row between its check and its sum.
+    # A PyDLL's calls keep the interpreter's lock, which they can for their few microseconds: so no Python
+    # code of another thread changes a lent row between its check and its sum.
     return ctypes.PyDLL(found[0] if found else "libquailribbon.so")
 
 

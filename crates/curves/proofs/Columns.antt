@@ -2,7 +2,6 @@
 use mathlib.Core.Path.{_≡_, refl, _∙_}
 use Prim.Native.Nat.{ℕ, _≤_}
 use native.Mathlib.Nat.{le-trans, le-of-eq}
-use lib.ListN.{length, getD}
 use lib.Dec.{lit≤}
 use Rattle.mixing.specs.Sum.{total, sumOf}
 use Rattle.mixing.proofs.Sum.{total-list}

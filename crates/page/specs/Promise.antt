@@ -1,4 +1,4 @@
--- What is promised of every page, whatever the bytes are: it is never blank, and it is never long. And what it is in the dark.
+-- What is promised of pages: none is blank or long, whatever the bytes are; and what the page of a dark room and the example's are.
 use mathlib.Core.Path.{_≡_}
 use mathlib.Core.List.{List, [], _∷_, _++_}
 use Prim.Native.Nat.{ℕ, _-_, _≤_}

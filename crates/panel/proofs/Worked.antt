@@ -8,7 +8,6 @@ use Rattle.grid.specs.declared.Check.the-variants.{Fine}
 use Rattle.grid.specs.declared.Refusal.{Refusal}
 use Rattle.exact.specs.Value.{short}
 use Rattle.curves.specs.declared.weigh.Sums.{Sums}
-use Rattle.answers.specs.declared.XyAnswer.{XyAnswer}
 use Rattle.answers.specs.Worked.{xyzFrom, xyFrom}
 use Rattle.panel.specs.declared.sums.SumsAnswer.{SumsAnswer}
 use Rattle.panel.specs.Panel.{panelCheck, whiteSum, xSum, ySum, zSum}

@@ -10,10 +10,10 @@ use Rattle.grid.proofs.Limit.{passed}
 use Rattle.curves.specs.declared.Curve.{Curve}
 use Rattle.curves.specs.declared.Curve.the-variants.{XBar, YBar, ZBar, XBar10, YBar10, ZBar10}
 use Rattle.curves.proofs.Sums.{light-sum}
-use Rattle.grid.specs.Check.{lightCheck}
+use Rattle.grid.specs.Check.{lightCheck, Within}
+use Rattle.grid.proofs.Light.{within, on-grid}
 use Rattle.spectrum.specs.Line.{rowOf}
-use Rattle.spectrum.specs.Begin.{Begun}
-use Rattle.spectrum.proofs.Light.{row-small, begun-small, row-weighed}
+use Rattle.spectrum.proofs.Light.{row-within, row-weighed}
 use Rattle.answers.specs.Sums.{ofObserver}
 use Rattle.readings.specs.Readings.{weighed, colourCheck, xSum, ySum, zSum}
 
@@ -21,18 +21,18 @@ use Rattle.readings.specs.Readings.{weighed, colourCheck, xSum, ySum, zS
 pub colour-fine : (o a s : ℕ) (xs : List ℕ) → colourCheck o a s xs ≡ Fine → lightCheck a s xs ≡ Fine
 colour-fine o a s xs fine = passed (isObserver o) (lightCheck a s xs) (refusal 6 0) fine .1
 
-pub begun-sum-small : (a s : ℕ) (xs : List ℕ) → Begun 1000000 a s xs → (c : Curve) → weighed c a s xs ≤ 20000000000000000000000
-begun-sum-small a s xs begun c = rw row-weighed at (light-sum c (rowOf a s xs) (begun-small 1000000 a s xs begun))
+pub sum-small :
+    (a s : ℕ) (xs : List ℕ) → 1 ≤ s → s ≤ 10 → Within 1000000 xs → (c : Curve) → weighed c a s xs ≤ 20000000000000000000000
+sum-small a s xs low high within c = rw row-weighed at (light-sum c (rowOf a s xs) (row-within a s 1000000 xs low high within))
 
 module _ (a s : ℕ) (xs : List ℕ) (fine : lightCheck a s xs ≡ Fine) where
-  pub sum-small : (c : Curve) → weighed c a s xs ≤ 20000000000000000000000
-  sum-small c = rw row-weighed at (light-sum c (rowOf a s xs) (row-small a s xs fine))
-
   pub colour-small : (o : ℕ) → xSum o a s xs + ySum o a s xs + zSum o a s xs < 2 ^ 96
   colour-small o =
-      let x = sum-small (ofObserver o XBar XBar10) in
-      let y = sum-small (ofObserver o YBar YBar10) in
-      let z = sum-small (ofObserver o ZBar ZBar10) in
+      let on = on-grid a s xs fine in
+      let small = sum-small a s xs (on .step-low) (on .step-high) (within a s xs fine) in
+      let x = small (ofObserver o XBar XBar10) in
+      let y = small (ofObserver o YBar YBar10) in
+      let z = small (ofObserver o ZBar ZBar10) in
       omega arith
 
 -- the mesopic sum and divisor, as they are worked, pass no 96 bits

@@ -1,12 +1,11 @@
 -- Where no light meets a curve's weights, its sum is 0: the illuminances are 0, the coordinates dark.
-use mathlib.Core.Path.{_≡_, refl, sym, ap}
+use mathlib.Core.Path.{_≡_, refl}
 use mathlib.Core.Bool.{Bool, true, false, cond}
 use mathlib.Core.List.{List}
-use Prim.Native.Nat.{ℕ, zero, suc, _+_, _*_, _-_, _/_, _%_, _^_, _≤_, zero-le}
+use Prim.Native.Nat.{ℕ, zero, suc, _+_, _*_, _-_, _/_, _%_, _≤_, zero-le}
 use native.Mathlib.Nat.{mul-zero, add-zero}
 use borrow.Author.Tests.{le-leb}
 use lib.ListN.{getD, replicate, length, length-replicate}
-use lib.Dec.{leb}
 use Rattle.grid.specs.declared.Check.the-variants.{Fine}
 use Rattle.grid.specs.Check.{refusal, isObserver, gridCheck, samplesCheck, lightCheck}
 use Rattle.grid.proofs.Limit.{within-fine}

@@ -1,4 +1,4 @@
--- What is promised of mixed light, of light in order and of darkness, said of these readings.
+-- What is promised of mixed light, of light in order, of darkness and of the mesopic reading by day, said of these readings.
 use mathlib.Core.Path.{_≡_}
 use mathlib.Core.Bool.{true}
 use mathlib.Core.List.{List, [], _∷_}

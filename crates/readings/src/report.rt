@@ -17,8 +17,6 @@ use spectrum::line::begin_at_360;
 ghost use mathlib.Core.Path.{_≡_};
 ghost use Prim.Native.Nat.{_+_, _*_, _^_, _<_};
 ghost use Rattle.exact.specs.Value.{short};
-ghost use Rattle.grid.specs.declared.Check.the-variants.{Fine};
-ghost use Rattle.grid.specs.Check.{lightCheck};
 ghost use Rattle.answers.specs.Worked.{readingFrom, xyzFrom, xyFrom};
 ghost use Rattle.readings.specs.Readings.{together, figuresOf};
 

@@ -1,16 +1,13 @@
--- What an accepted light's row is: small enough to be weighed, and W when it is.
+-- What the row of samples within a limit is: small enough to be weighed, and W when it is.
 use mathlib.Core.Path.{_≡_}
 use mathlib.Core.List.{List}
 use Prim.Native.Nat.{ℕ, _+_, _*_, _≤_}
 use native.Mathlib.Nat.{le-trans, mul-le-mul-right}
-use Rattle.grid.specs.declared.Check.the-variants.{Fine}
 use Rattle.grid.specs.Check.{Within}
 use Rattle.grid.proofs.Limit.{within-row}
-use Rattle.grid.proofs.Light.{within, on-grid}
 use Rattle.mixing.specs.Sum.{weighted}
 use Rattle.mixing.proofs.Sum.{weighted-ext}
-use Rattle.curves.specs.Curves.{entryOf, Row}
-use Rattle.grid.specs.Check.{lightCheck}
+use Rattle.curves.specs.Curves.{entryOf}
 use Rattle.spectrum.specs.Line.{T, listed, rowOf, W}
 use Rattle.spectrum.specs.Begin.{Begun}
 use Rattle.spectrum.proofs.Measured.{T-bound}
@@ -26,11 +23,7 @@ row-within a s limit xs low high within =
     rw (getD-listed 471 f k (rw (length-listed 471 f) at h))
     (le-trans (T-bound a s limit xs within (360 + k) low) (mul-le-mul-right limit high)))
 
-module _ (a s : ℕ) (xs : List ℕ) (fine : lightCheck a s xs ≡ Fine) where
-  pub row-small : Row (rowOf a s xs)
-  row-small = let on = on-grid a s xs fine in row-within a s 1000000 xs (on .step-low) (on .step-high) (within a s xs fine)
-
--- nor is one of a part's row
+-- nor is one of the row of a part that is begun
 pub begun-small : (limit a s : ℕ) (xs : List ℕ) → Begun limit a s xs → Within (10 * limit) (rowOf a s xs)
 begun-small limit a s xs begun =
     row-within a s limit xs (begun .part .step-low) (begun .part .step-high) (begun .within)

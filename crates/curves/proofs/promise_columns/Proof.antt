@@ -1,9 +1,6 @@
 -- Everything is the columns' own; the printed sums are the exact ones, rounded.
-use mathlib.Core.Path.{_≡_, refl}
 use Rattle.mixing.specs.Nearest.{nearest}
-use Rattle.curves.specs.Tables.{xBar, yBar, zBar, xBar10, yBar10, zBar10}
 use Rattle.curves.specs.Curves.{table}
-use Rattle.curves.specs.Columns.{Columns}
 use Rattle.curves.specs.declared.Curve.the-variants.{XBar, YBar, ZBar, XBar10, YBar10, ZBar10}
 use Rattle.curves.proofs.Largest.{at-most-largest}
 use Rattle.curves.proofs.Columns.{column}

@@ -1,6 +1,5 @@
 -- What the call below answers, made flat.
 use mathlib.Core.Path.{_∙_, ap}
-use lib.ListN.{length}
 use Rattle.page.specs.Said.{saidReported}
 use Rattle.quailribbon.specs.Records.{flatWritten}
 use borrow.Author.Needs.{needs}

@@ -5,7 +5,7 @@ use native.Mathlib.Omega.{arith}
 use Rattle.curves.specs.declared.Curve.the-variants.{YBar, VPrime}
 use Rattle.spectrum.proofs.Light.{begun-small, row-weighed}
 use Rattle.readings.specs.Readings.{weighed}
-use Rattle.readings.proofs.Small.{begun-sum-small, mesopic-sum-kept}
+use Rattle.readings.proofs.Small.{sum-small, mesopic-sum-kept}
 use borrow.Author.Needs.{needs}
 use Rattle.readings.proofs.sums.mesopic_weighed.Statement.{statement}
 use Rattle.readings.proofs.sums.mesopic_weighed.Tie as tie
@@ -42,7 +42,8 @@ returns c =
     let row = night .before .before .before .before in
     let s = row .before .before in
     let t = s .args in
-    let small = begun-sum-small (t .first) (t .step) (t .part .now) (s .pre .1) in
+    let begun = s .pre .1 in
+    let small = sum-small (t .first) (t .step) (t .part .now) (begun .part .step-low) (begun .part .step-high) (begun .within) in
     c .short-times-plus2 .ensures
     ∙ rw (
       c .before .weigh2 .ensures,

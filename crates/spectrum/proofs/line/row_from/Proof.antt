@@ -1,7 +1,4 @@
 -- At step 1 the samples are copied; at any other step the line is walked.
-use mathlib.Core.Path.{_∙_, subst, sym}
-use lib.ListN.{length}
-use Rattle.spectrum.specs.Line.{Part, rowOf}
 use borrow.Author.Needs.{needs}
 use Rattle.spectrum.proofs.line.row_from.Statement.{statement}
 use Rattle.spectrum.proofs.line.row_from.Tie as tie
