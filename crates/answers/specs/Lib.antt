@@ -1,4 +1,3 @@
 -- Definitions of the crate `answers`.
 pub mod Worked
 pub mod Said
-pub mod Sums

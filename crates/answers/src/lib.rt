@@ -1,5 +1,4 @@
 // The answers of readings and panels, each a value or a refusal.
-pub mod sums;
 pub mod work;
 
 use grid::Refusal;

@@ -7,7 +7,9 @@ use native.Mathlib.Omega.{arith}
 use lib.ListN.{getD}
 use Rattle.mixing.specs.Sum.{total, weighted}
 use Rattle.mixing.proofs.Sum.{weighted-one, weighted-bound, weighted-split}
-use Rattle.curves.specs.Curves.{entryOf, Row, Halves}
+use Rattle.mixing.specs.Sum.{entryOf}
+use Rattle.grid.specs.Check.{Within}
+use Rattle.tables.specs.Columns.{Halves}
 
 -- the halves of a table's entries
 abbrev pub upper : List ℕ → ℕ → ℕ
@@ -16,7 +18,7 @@ upper weights k = getD weights k 0 / 2 ^ 32
 abbrev pub lower : List ℕ → ℕ → ℕ
 lower weights k = getD weights k 0 % 2 ^ 32
 
-module _ (row : List ℕ) (small : Row row) where
+module _ (row : List ℕ) (small : Within 10000000 row) where
   -- one place more
   pub next :
       (f : ℕ → ℕ) (k sum : ℕ) → sum ≡ weighted k f (entryOf row) →

@@ -5,7 +5,7 @@ use Prim.Native.Nat.{ℕ, _+_, _*_, _/_, _%_, _^_}
 use lib.ListN.{getD}
 use Rattle.mixing.specs.Sum.{weighted}
 use Rattle.mixing.proofs.Sum.{weighted-ext, line-split}
-use Rattle.curves.specs.Curves.{entryOf}
+use Rattle.mixing.specs.Sum.{entryOf}
 use Rattle.curves.specs.Split.{SplitOf}
 
 pub split-weighed :

@@ -1,5 +1,3 @@
 -- Definitions of the crate `curves`.
-pub mod Tables
-pub mod Curves
+pub mod Colour
 pub mod Split
-pub mod Columns

@@ -1,23 +1,28 @@
-// Weighted sums over the whole nanometres 360 to 830. Each table is lent whole to the one loop by a function of its own:
-// a table is built anew where it is named, and one match over all tables would look up each entry by the curve.
-use crate::Curve;
-use crate::tables::ILLUMINANT_A;
-use crate::tables::ILLUMINANT_D65;
-use crate::tables::V_PRIME;
-use crate::tables::X_BAR;
-use crate::tables::X_BAR_10;
-use crate::tables::Y_BAR;
-use crate::tables::Y_BAR_10;
-use crate::tables::Z_BAR;
-use crate::tables::Z_BAR_10;
+// Weighted sums over the whole nanometres 360 to 830.
 use exact::digits::Short;
 use exact::digits::joined;
+use tables::Curve;
+use tables::v_prime;
+use tables::x_bar;
+use tables::x_bar_10;
+use tables::y_bar;
+use tables::y_bar_10;
+use tables::z_bar;
+use tables::z_bar_10;
 ghost use mathlib.Core.Path.{_≡_};
-ghost use lib.ListN.{getD};
 ghost use Rattle.exact.specs.Value.{short};
-ghost use Rattle.mixing.specs.Sum.{weighted};
-ghost use Rattle.curves.specs.Curves.{entryOf, weightOf, Row, Halves};
-ghost use Rattle.curves.specs.Tables.{xBar, yBar, zBar, xBar10, yBar10, zBar10, vPrime, illuminantA, illuminantD65};
+ghost use Rattle.grid.specs.Check.{Within};
+ghost use Rattle.mixing.specs.Sum.{weighted, entryOf};
+ghost use Rattle.tables.specs.Curves.{weightOf};
+ghost use Rattle.tables.specs.Columns.{Halves};
+ghost use Rattle.curves.specs.Colour.{colourOf, RowSums};
+
+// An observer's three curves.
+pub struct Colour {
+    pub x: Curve,
+    pub y: Curve,
+    pub z: Curve,
+}
 
 // The three exact sums of a colour.
 pub struct Sums {
@@ -26,90 +31,80 @@ pub struct Sums {
     pub z: Short,
 }
 
-// The weighted sum of a row by any of the curves.
-pub fn weigh(curve: Curve, row: &[u64; 471]) -> Short
-    requires { ⌜ Row (now row) ⌝ }
-    ensures { λ r. ⌜ short r ≡ weighted 471 (weightOf curve) (entryOf (now (row .entry))) ⌝ }
+pub fn colour_of(observer: u32) -> Colour
+    ensures { λ r. ⌜ r ≡ colourOf observer ⌝ }
 {
-    match curve {
-        Curve::XBar => by_x_bar(row),
-        Curve::YBar => by_y_bar(row),
-        Curve::ZBar => by_z_bar(row),
-        Curve::XBar10 => by_x_bar_10(row),
-        Curve::YBar10 => by_y_bar_10(row),
-        Curve::ZBar10 => by_z_bar_10(row),
-        Curve::VPrime => by_v_prime(row),
-        Curve::IlluminantA => by_illuminant_a(row),
-        Curve::IlluminantD65 => by_illuminant_d65(row),
+    if observer == 10 {
+        Colour {
+            x: Curve::XBar10,
+            y: Curve::YBar10,
+            z: Curve::ZBar10,
+        }
+    } else {
+        Colour {
+            x: Curve::XBar,
+            y: Curve::YBar,
+            z: Curve::ZBar,
+        }
     }
 }
 
-fn by_x_bar(row: &[u64; 471]) -> Short
-    requires { ⌜ Row (now row) ⌝ }
-    ensures { λ r. ⌜ short r ≡ weighted 471 (entryOf xBar) (entryOf (now (row .entry))) ⌝ }
+// The three sums of a row of light, one for each of the observer's curves.
+pub fn row_sums(observer: u32, row: &[u64; 471]) -> Sums
+    requires { ⌜ Within 10000000 (now row) ⌝ }
+    ensures { λ r. ⌜ RowSums observer (now (row .entry)) r ⌝ }
 {
-    sum(&X_BAR, row)
+    let colour = colour_of(observer);
+    let x = colour.x;
+    let y = colour.y;
+    let z = colour.z;
+    Sums {
+        x: weigh(x, row),
+        y: weigh(y, row),
+        z: weigh(z, row),
+    }
 }
 
-fn by_y_bar(row: &[u64; 471]) -> Short
-    requires { ⌜ Row (now row) ⌝ }
-    ensures { λ r. ⌜ short r ≡ weighted 471 (entryOf yBar) (entryOf (now (row .entry))) ⌝ }
+// The weighted sum of a row that holds a step of at most 10 times a sample of at most 1,000,000 at each place.
+pub fn weigh(curve: Curve, row: &[u64; 471]) -> Short
+    requires { ⌜ Within 10000000 (now row) ⌝ }
+    ensures { λ r. ⌜ short r ≡ weighted 471 (weightOf curve) (entryOf (now (row .entry))) ⌝ }
 {
-    sum(&Y_BAR, row)
-}
-
-fn by_z_bar(row: &[u64; 471]) -> Short
-    requires { ⌜ Row (now row) ⌝ }
-    ensures { λ r. ⌜ short r ≡ weighted 471 (entryOf zBar) (entryOf (now (row .entry))) ⌝ }
-{
-    sum(&Z_BAR, row)
-}
-
-fn by_x_bar_10(row: &[u64; 471]) -> Short
-    requires { ⌜ Row (now row) ⌝ }
-    ensures { λ r. ⌜ short r ≡ weighted 471 (entryOf xBar10) (entryOf (now (row .entry))) ⌝ }
-{
-    sum(&X_BAR_10, row)
-}
-
-fn by_y_bar_10(row: &[u64; 471]) -> Short
-    requires { ⌜ Row (now row) ⌝ }
-    ensures { λ r. ⌜ short r ≡ weighted 471 (entryOf yBar10) (entryOf (now (row .entry))) ⌝ }
-{
-    sum(&Y_BAR_10, row)
-}
-
-fn by_z_bar_10(row: &[u64; 471]) -> Short
-    requires { ⌜ Row (now row) ⌝ }
-    ensures { λ r. ⌜ short r ≡ weighted 471 (entryOf zBar10) (entryOf (now (row .entry))) ⌝ }
-{
-    sum(&Z_BAR_10, row)
-}
-
-fn by_v_prime(row: &[u64; 471]) -> Short
-    requires { ⌜ Row (now row) ⌝ }
-    ensures { λ r. ⌜ short r ≡ weighted 471 (entryOf vPrime) (entryOf (now (row .entry))) ⌝ }
-{
-    sum(&V_PRIME, row)
-}
-
-fn by_illuminant_a(row: &[u64; 471]) -> Short
-    requires { ⌜ Row (now row) ⌝ }
-    ensures { λ r. ⌜ short r ≡ weighted 471 (entryOf illuminantA) (entryOf (now (row .entry))) ⌝ }
-{
-    sum(&ILLUMINANT_A, row)
-}
-
-fn by_illuminant_d65(row: &[u64; 471]) -> Short
-    requires { ⌜ Row (now row) ⌝ }
-    ensures { λ r. ⌜ short r ≡ weighted 471 (entryOf illuminantD65) (entryOf (now (row .entry))) ⌝ }
-{
-    sum(&ILLUMINANT_D65, row)
+    match curve {
+        Curve::XBar => {
+            let weights = x_bar();
+            sum(&weights, row)
+        }
+        Curve::YBar => {
+            let weights = y_bar();
+            sum(&weights, row)
+        }
+        Curve::ZBar => {
+            let weights = z_bar();
+            sum(&weights, row)
+        }
+        Curve::XBar10 => {
+            let weights = x_bar_10();
+            sum(&weights, row)
+        }
+        Curve::YBar10 => {
+            let weights = y_bar_10();
+            sum(&weights, row)
+        }
+        Curve::ZBar10 => {
+            let weights = z_bar_10();
+            sum(&weights, row)
+        }
+        Curve::VPrime => {
+            let weights = v_prime();
+            sum(&weights, row)
+        }
+    }
 }
 
 // The sum of weight times row. The weights are split at 2^32, and neither half's sum passes 64 bits.
 fn sum(weights: &[u64; 471], row: &[u64; 471]) -> Short
-    requires { ⌜ Halves (now weights) × Row (now row) ⌝ }
+    requires { ⌜ Halves (now weights) × Within 10000000 (now row) ⌝ }
     ensures { λ r. ⌜ short r ≡ weighted 471 (entryOf (now (weights .entry))) (entryOf (now (row .entry))) ⌝ }
 {
     let mut high: u64 = 0;

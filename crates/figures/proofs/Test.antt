@@ -10,8 +10,8 @@ use Rattle.grid.specs.Check.{gridCheck, limitCheck}
 use Rattle.mixing.specs.Nearest.{nearest}
 use Rattle.mixing.specs.Sum.{total, weighted}
 use Rattle.mixing.specs.Mixture.{mix}
-use Rattle.curves.specs.Tables.{xBar, yBar, zBar, xBar10, yBar10, zBar10, vPrime, illuminantA, illuminantD65}
-use Rattle.curves.specs.Curves.{table}
+use Rattle.tables.specs.Tables.{xBar, yBar, zBar, xBar10, yBar10, zBar10, vPrime, illuminantA, illuminantD65}
+use Rattle.tables.specs.Curves.{table, powers}
 use Rattle.grid.specs.Check.{lightCheck}
 use Rattle.spectrum.specs.Line.{lineAt, endRule, W, T as T′}
 use Rattle.answers.specs.Worked.{readingFrom, xyzFrom, xyFrom}
@@ -91,5 +91,5 @@ holds (r ∷ rs) t = (
 
 -- the test, computed over the whole table
 pub passes : T (test rows)
-unfolding test same sameNumbers noFloats rows answerOf panelXyzOf panelXyOf panelCheck surfaceCheck whiteSum illuminanceOf mesopicOf xyzOf xyOf readingFrom xyzFrom xyFrom lightCheck gridCheck limitCheck W weighted total T′ lineAt endRule table xBar yBar zBar xBar10 yBar10 zBar10 vPrime illuminantA illuminantD65 nearest mix
+unfolding test same sameNumbers noFloats rows answerOf panelXyzOf panelXyOf panelCheck surfaceCheck whiteSum illuminanceOf mesopicOf xyzOf xyOf readingFrom xyzFrom xyFrom lightCheck gridCheck limitCheck W weighted total T′ lineAt endRule table powers xBar yBar zBar xBar10 yBar10 zBar10 vPrime illuminantA illuminantD65 nearest mix
 passes = tt

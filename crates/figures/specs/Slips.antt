@@ -5,9 +5,10 @@ use Prim.Native.Nat.{ℕ, zero, suc, _+_, _*_, _-_, _/_, _^_}
 use lib.ListN.{length, getD}
 use Rattle.mixing.specs.Nearest.{nearest}
 use Rattle.mixing.specs.Sum.{total, weighted}
-use Rattle.curves.specs.declared.Curve.the-variants.{YBar}
-use Rattle.curves.specs.Tables.{zBar}
-use Rattle.curves.specs.Curves.{weightOf, entryOf}
+use Rattle.tables.specs.declared.Curve.the-variants.{YBar}
+use Rattle.tables.specs.Tables.{zBar}
+use Rattle.mixing.specs.Sum.{entryOf}
+use Rattle.tables.specs.Curves.{weightOf}
 use Rattle.spectrum.specs.Line.{T}
 use Rattle.grid.specs.Said.{value}
 use Rattle.figures.specs.Asked.{Asked, answerOf, photopic, xyz, xy}

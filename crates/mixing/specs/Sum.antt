@@ -1,6 +1,7 @@
 -- Sums over places, and weighted sums.
 use mathlib.Core.List.{List, [], _∷_}
 use Prim.Native.Nat.{ℕ, zero, suc, _+_, _*_}
+use lib.ListN.{getD}
 
 -- the sum of f at the places below n
 unfoldable pub total : ℕ → (ℕ → ℕ) → ℕ
@@ -15,3 +16,7 @@ weighted n v t = total n (λ k. v k * t k)
 unfoldable pub sumOf : List ℕ → ℕ
 sumOf [] = 0
 sumOf (x ∷ xs) = x + sumOf xs
+
+-- a list as a line: its entry at a place, 0 past the end
+abbrev pub entryOf : List ℕ → ℕ → ℕ
+entryOf xs k = getD xs k 0

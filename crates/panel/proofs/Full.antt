@@ -8,15 +8,13 @@ use lib.ListN.{replicate, getD-replicate}
 use Rattle.grid.specs.declared.Check.the-variants.{Fine}
 use Rattle.grid.specs.Check.{isObserver, isStep, gridCheck, limitCheck}
 use Rattle.grid.proofs.Accepted.{step-cases}
-use Rattle.mixing.specs.Sum.{total, weighted}
+use Rattle.mixing.specs.Sum.{total, weighted, entryOf}
 use Rattle.mixing.proofs.Nearest.{nearest-times}
 use Rattle.mixing.proofs.Sum.{weighted-ext, weighted-swap, total-mul}
-use Rattle.curves.specs.declared.Curve.the-variants.{YBar, YBar10}
-use Rattle.curves.specs.Curves.{entryOf}
 use Rattle.spectrum.specs.Line.{lineAt, T, listed, rowOf, W}
 use Rattle.spectrum.proofs.Light.{row-weighed}
 use Rattle.grid.specs.Said.{value}
-use Rattle.answers.specs.Sums.{ofObserver}
+use Rattle.curves.specs.Colour.{colourOf}
 use Rattle.panel.specs.Panel.{isIlluminant, illuminantOf, litBy, surfaceCheck, panelCheck, whiteSum, ySum}
 use Rattle.panel.specs.Promises.{xyz, fullWhite}
 use Rattle.panel.proofs.Given.{divisor-some, values, given}
@@ -52,6 +50,6 @@ unfolding panelCheck whiteSum
 white o i s p q r =
     let fine : panelCheck o i 360 s (fullWhite s) ≡ Fine = rw (p, q) (accepted s r) in
     let e : ySum o i 360 s (fullWhite s) ≡ s * 10000 * whiteSum o i =
-    full-sum (litBy (illuminantOf i) (ofObserver o YBar YBar10)) s r in
+    full-sum (litBy (illuminantOf i) (colourOf o .y)) s r in
     let y : 10 * ySum o i 360 s (fullWhite s) ≡ 100000 * (s * whiteSum o i) = omega arith in
     (given o i 360 s (fullWhite s) fine, rw (values o i 360 s (fullWhite s) fine, y) (nearest-times 100000 (s * whiteSum o i) (divisor-some o i 360 s (fullWhite s) fine)))

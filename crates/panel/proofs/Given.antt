@@ -5,27 +5,26 @@ use Prim.Native.Nat.{ℕ, _*_, _≤_, _<_}
 use native.Mathlib.Nat.{mul-pos, mul-le-mul-left}
 use native.Mathlib.Omega.{arith}
 use lib.ListN.{length}
-use lib.Dec.{eqb}
 use Rattle.grid.specs.declared.Check.the-variants.{Fine}
 use Rattle.mixing.specs.Nearest.{nearest}
 use Rattle.mixing.specs.Sum.{total}
 use Rattle.mixing.specs.Mixture.{Below, Linear}
 use Rattle.mixing.proofs.Nearest.{nearest-bound}
 use Rattle.mixing.proofs.Mixture.{linear-times}
-use Rattle.curves.specs.declared.Curve.{Curve}
-use Rattle.curves.specs.declared.Curve.the-variants.{XBar, YBar, ZBar, XBar10, YBar10, ZBar10}
+use Rattle.tables.specs.declared.Curve.{Curve}
 use Rattle.spectrum.specs.Line.{W}
 use Rattle.spectrum.proofs.Measured.{W-linear}
+use Rattle.spectrum.proofs.Light.{W-bound}
+use Rattle.tables.proofs.Sums.{lit-sum}
 use Rattle.answers.specs.declared.XyzAnswer.{XyzAnswer}
 use Rattle.grid.specs.Said.{value}
-use Rattle.answers.specs.Sums.{ofObserver}
+use Rattle.curves.specs.Colour.{colourOf}
 use Rattle.answers.proofs.Values.{xyz-given}
 use Rattle.answers.proofs.Mixed.{xyz-order}
 use Rattle.panel.specs.Panel.{illuminantOf, panelCheck, litBy, whiteSum, xSum, ySum, zSum, panelXyzOf}
 use Rattle.panel.specs.Promises.{xyz}
-use Rattle.panel.proofs.Computed.{lit-small}
 use Rattle.panel.proofs.Surface.{surface-fine, on-grid}
-use Rattle.panel.proofs.Sized.{white-some, surface-sized, panel-bound}
+use Rattle.panel.proofs.Sized.{white-some, surface-sized}
 
 module _ (o i a s : ℕ) (rs : List ℕ) (fine : panelCheck o i a s rs ≡ Fine) where
   pub divisor-some : 0 < s * whiteSum o i
@@ -38,8 +37,9 @@ module _ (o i a s : ℕ) (rs : List ℕ) (fine : panelCheck o i a s rs ≡ Fine)
   fits : (c : Curve) → nearest (10 * W (litBy (illuminantOf i) c) a s rs) (s * whiteSum o i) ≤ 4294967295
   fits c =
       let v = litBy (illuminantOf i) c in
-      let x : W v a s rs ≤ s * 10000 * total 471 v = panel-bound a s rs (surface-sized a s rs (surface-fine o i a s rs fine)) v in
-      let y : s * 10000 * total 471 v ≤ s * 10000 * 52320400000000000000000 = mul-le-mul-left (s * 10000) (lit-small (eqb i 2) c) in
+      let sized = surface-sized a s rs (surface-fine o i a s rs fine) in
+      let x : W v a s rs ≤ s * 10000 * total 471 v = W-bound v a s 10000 rs (sized .low) (sized .within) in
+      let y : s * 10000 * total 471 v ≤ s * 10000 * 52320400000000000000000 = mul-le-mul-left (s * 10000) (lit-sum (illuminantOf i) c) in
       let z : s * 10500000000000000000000 ≤ s * whiteSum o i = mul-le-mul-left s (white-some o i) in
       let n = nearest-bound 500000 (10 * W v a s rs) (s * whiteSum o i) (omega arith) in
       omega arith
@@ -56,7 +56,7 @@ module _ (o i a s : ℕ) (rs : List ℕ) (fine : panelCheck o i a s rs ≡ Fine)
   values =
       rw fine
       (xyz-given (10 * xSum o i a s rs) (10 * ySum o i a s rs) (10 * zSum o i a s rs) (s * whiteSum o i)
-      (fits (ofObserver o XBar XBar10)) (fits (ofObserver o YBar YBar10)) (fits (ofObserver o ZBar ZBar10)))
+      (fits (colourOf o .x)) (fits (colourOf o .y)) (fits (colourOf o .z)))
 
   pub given : xyz o i a s rs .number ≡ 0
   given = rw values
@@ -74,6 +74,6 @@ order o i a s rs qs p q l b k =
     let n = length rs in
     rw (p, q)
     (xyz-order n (s * whiteSum o i) (divisor-some o i a s rs p) rs qs refl (sym l) (λ zs. 10 * xSum o i a s zs)
-    (λ zs. 10 * ySum o i a s zs) (λ zs. 10 * zSum o i a s zs) (ten-linear o i a s n (ofObserver o XBar XBar10))
-    (ten-linear o i a s n (ofObserver o YBar YBar10)) (ten-linear o i a s n (ofObserver o ZBar ZBar10)) b
+    (λ zs. 10 * ySum o i a s zs) (λ zs. 10 * zSum o i a s zs) (ten-linear o i a s n (colourOf o .x))
+    (ten-linear o i a s n (colourOf o .y)) (ten-linear o i a s n (colourOf o .z)) b
     (rw p at (given o i a s rs p)) (rw q at (given o i a s qs q)) k)

@@ -2,21 +2,19 @@
 use mathlib.Core.Path.{_≡_, _∙_}
 use mathlib.Core.List.{List}
 use Prim.Native.Nat.{ℕ, _+_, _*_, _%_, _^_, _≤_, _<_}
-use native.Mathlib.Nat.{mod-eq-of-lt, le-refl, le-trans, mul-le-mul, mul-le-mul-right}
+use native.Mathlib.Nat.{mod-eq-of-lt, le-trans, mul-le-mul, mul-le-mul-right}
 use native.Mathlib.Omega.{arith}
 use lib.Dec.{eqb}
 use Rattle.grid.specs.declared.Check.the-variants.{Fine}
-use Rattle.mixing.specs.Sum.{total}
-use Rattle.mixing.proofs.Sum.{weighted-bound}
-use Rattle.curves.specs.declared.Curve.{Curve}
-use Rattle.curves.specs.declared.Curve.the-variants.{XBar, YBar, ZBar, XBar10, YBar10, ZBar10}
+use Rattle.tables.specs.declared.Curve.{Curve}
 use Rattle.grid.specs.Check.{Within}
-use Rattle.spectrum.specs.Line.{T, W}
+use Rattle.spectrum.specs.Line.{W}
 use Rattle.spectrum.specs.Begin.{Begun}
-use Rattle.spectrum.proofs.Measured.{T-bound}
-use Rattle.answers.specs.Sums.{ofObserver}
+use Rattle.spectrum.proofs.Light.{W-bound}
+use Rattle.curves.specs.Colour.{colourOf}
 use Rattle.panel.specs.Panel.{illuminantOf, surfaceCheck, litBy, whiteSum, xSum, ySum, zSum}
-use Rattle.panel.proofs.Computed.{white-low, lit-small}
+use Rattle.tables.proofs.Sums.{lit-sum}
+use Rattle.panel.proofs.Computed.{white-low}
 use Rattle.panel.proofs.Surface.{within, on-grid}
 
 module _ (o i : ℕ) where
@@ -27,7 +25,7 @@ module _ (o i : ℕ) where
   pub divisor-kept : (s : ℕ) → s ≤ 10 → (whiteSum o i * s + 0) % 2 ^ 96 ≡ s * whiteSum o i
   unfolding whiteSum
   divisor-kept s h =
-      let x : whiteSum o i * s ≤ 52320400000000000000000 * 10 = mul-le-mul (lit-small (eqb i 2) (ofObserver o YBar YBar10)) h in
+      let x : whiteSum o i * s ≤ 52320400000000000000000 * 10 = mul-le-mul (lit-sum (illuminantOf i) (colourOf o .y)) h in
       mod-eq-of-lt (omega arith) ∙ omega arith
 
 -- a step in range, and no reflectance above the limit
@@ -46,21 +44,14 @@ pub begun-sized : (a s : ℕ) (rs : List ℕ) → Begun 10000 a s rs → Sized s
 begun-sized a s rs begun = record { low = begun .part .step-low; high = begun .part .step-high; within = begun .within }
 
 module _ (a s : ℕ) (rs : List ℕ) (sized : Sized s rs) where
-  -- no panel is above a white one
-  pub panel-bound : (v : ℕ → ℕ) → W v a s rs ≤ s * 10000 * total 471 v
-  unfolding W
-  panel-bound v =
-      weighted-bound (s * 10000) 471 471 v (λ k. T a s rs (360 + k))
-      (λ k. T-bound a s 10000 rs (sized .within) (360 + k) (sized .low)) (le-refl 471)
-
   pub sum-small : (i : ℕ) (c : Curve) → W (litBy (illuminantOf i) c) a s rs ≤ 5232040000000000000000000000
   sum-small i c =
-      le-trans (panel-bound (litBy (illuminantOf i) c))
-      (mul-le-mul (mul-le-mul-right 10000 (sized .high)) (lit-small (eqb i 2) c))
+      le-trans (W-bound (litBy (illuminantOf i) c) a s 10000 rs (sized .low) (sized .within))
+      (mul-le-mul (mul-le-mul-right 10000 (sized .high)) (lit-sum (illuminantOf i) c))
 
   pub colour-small : (o i : ℕ) → xSum o i a s rs + ySum o i a s rs + zSum o i a s rs < 2 ^ 96
   colour-small o i =
-      let x = sum-small i (ofObserver o XBar XBar10) in
-      let y = sum-small i (ofObserver o YBar YBar10) in
-      let z = sum-small i (ofObserver o ZBar ZBar10) in
+      let x = sum-small i (colourOf o .x) in
+      let y = sum-small i (colourOf o .y) in
+      let z = sum-small i (colourOf o .z) in
       omega arith

@@ -8,22 +8,23 @@ use Rattle.grid.specs.declared.Check.{Check}
 use Rattle.grid.specs.declared.Check.the-variants.{Refused}
 use Rattle.grid.specs.Check.{unless, require, isObserver, gridCheck, reflectancesCheck}
 use Rattle.mixing.specs.Sum.{total}
-use Rattle.curves.specs.declared.Curve.{Curve}
-use Rattle.curves.specs.declared.Curve.the-variants.{XBar, YBar, ZBar, XBar10, YBar10, ZBar10, IlluminantA, IlluminantD65}
-use Rattle.curves.specs.Curves.{weightOf}
+use Rattle.tables.specs.declared.Curve.{Curve}
+use Rattle.tables.specs.declared.Illuminant.{Illuminant}
+use Rattle.tables.specs.declared.Illuminant.the-variants.{A, D65}
+use Rattle.tables.specs.Curves.{weightOf, powerOf}
 use Rattle.spectrum.specs.Line.{W}
 use Rattle.answers.specs.declared.XyzAnswer.{XyzAnswer}
 use Rattle.answers.specs.declared.XyAnswer.{XyAnswer}
 use Rattle.answers.specs.declared.ChartAnswer.{ChartAnswer}
 use Rattle.answers.specs.Worked.{xyzFrom, xyFrom, onChart}
-use Rattle.answers.specs.Sums.{ofObserver}
+use Rattle.curves.specs.Colour.{colourOf}
 
 -- ILLUMINANT: neither 1 (A) nor 2 (D65)
 abbrev pub isIlluminant : ℕ → Bool
 isIlluminant i = eqb i 1 || eqb i 2
 
-abbrev pub illuminantOf : ℕ → Curve
-illuminantOf i = cond (eqb i 2) IlluminantD65 IlluminantA
+abbrev pub illuminantOf : ℕ → Illuminant
+illuminantOf i = cond (eqb i 2) D65 A
 
 -- a grid under the same rules: STEP, START, COUNT; then REFLECTANCE
 unfoldable pub surfaceCheck : ℕ → ℕ → List ℕ → Check
@@ -38,23 +39,23 @@ unfoldable pub panelCheck : ℕ → ℕ → ℕ → ℕ → List ℕ → Check
 panelCheck o i a s rs = require (isObserver o) 6 (require (isIlluminant i) 7 (surfaceCheck a s rs))
 
 -- illuminant times curve at each nanometre
-abbrev pub litBy : Curve → Curve → ℕ → ℕ
-litBy illuminant c k = weightOf illuminant k * weightOf c k
+abbrev pub litBy : Illuminant → Curve → ℕ → ℕ
+litBy illuminant c k = powerOf illuminant k * weightOf c k
 
 -- multiply the chosen illuminant, T and x̄ at each nanometre from 360 to 830, and add up: the panel's X sum
 abbrev pub xSum : ℕ → ℕ → ℕ → ℕ → List ℕ → ℕ
-xSum o i a s rs = W (litBy (illuminantOf i) (ofObserver o XBar XBar10)) a s rs
+xSum o i a s rs = W (litBy (illuminantOf i) (colourOf o .x)) a s rs
 
 -- Y and Z sums likewise, observer 10 with its own functions
 abbrev pub ySum : ℕ → ℕ → ℕ → ℕ → List ℕ → ℕ
-ySum o i a s rs = W (litBy (illuminantOf i) (ofObserver o YBar YBar10)) a s rs
+ySum o i a s rs = W (litBy (illuminantOf i) (colourOf o .y)) a s rs
 
 abbrev pub zSum : ℕ → ℕ → ℕ → ℕ → List ℕ → ℕ
-zSum o i a s rs = W (litBy (illuminantOf i) (ofObserver o ZBar ZBar10)) a s rs
+zSum o i a s rs = W (litBy (illuminantOf i) (colourOf o .z)) a s rs
 
 -- the white sum adds illuminant times ȳ over the same nanometres, with the ȳ of the observer asked for
 unfoldable pub whiteSum : ℕ → ℕ → ℕ
-whiteSum o i = total 471 (litBy (illuminantOf i) (ofObserver o YBar YBar10))
+whiteSum o i = total 471 (litBy (illuminantOf i) (colourOf o .y))
 
 -- X is the nearest of 10 times the X sum over s times the white sum, in thousandths; Y and Z likewise
 unfoldable pub panelXyzOf : ℕ → ℕ → ℕ → ℕ → List ℕ → XyzAnswer

@@ -25,15 +25,21 @@ use Rattle.grid.proofs.is_observer.Reads as is-observer
 use Rattle.grid.proofs.check_light.Reads as check-light
 use Rattle.grid.proofs.check_samples.Reads as check-samples
 use Rattle.grid.proofs.check_limit.Reads as check-limit
-use Rattle.curves.proofs.weight.Reads as weight
+use Rattle.tables.proofs.powers_of.Reads as powers-of
+use Rattle.tables.proofs.x_bar.Reads as x-bar
+use Rattle.tables.proofs.y_bar.Reads as y-bar
+use Rattle.tables.proofs.z_bar.Reads as z-bar
+use Rattle.tables.proofs.x_bar_10.Reads as x-bar-10
+use Rattle.tables.proofs.y_bar_10.Reads as y-bar-10
+use Rattle.tables.proofs.z_bar_10.Reads as z-bar-10
+use Rattle.tables.proofs.v_prime.Reads as v-prime
+use Rattle.curves.proofs.weigh.colour_of.Reads as colour-of
 use Rattle.curves.proofs.weigh.weigh.Reads as weigh
-use Rattle.curves.proofs.lit.lit_by_a.Reads as lit-by-a
-use Rattle.curves.proofs.lit.lit_by_d65.Reads as lit-by-d65
-use Rattle.curves.proofs.lit.sums_2.Reads as sums-2
-use Rattle.curves.proofs.lit.sums_10.Reads as sums-10
+use Rattle.curves.proofs.weigh.row_sums.Reads as row-sums
+use Rattle.curves.proofs.lit.lit_by.Reads as lit-by
+use Rattle.curves.proofs.lit.split_sums.Reads as split-sums
 use Rattle.spectrum.proofs.line.begin_at_360.Reads as begin-at-360
 use Rattle.spectrum.proofs.line.row_from.Reads as row-from
-use Rattle.answers.proofs.sums.row_sums.Reads as row-sums
 use Rattle.answers.proofs.work.reading_from.Reads as reading-from
 use Rattle.answers.proofs.work.xyz_from.Reads as xyz-from
 use Rattle.answers.proofs.work.xy_from.Reads as xy-from
@@ -134,38 +140,55 @@ one-check-samples k a r q e f p s = same p s
 one-check-limit : OneResult check-limit.Post
 one-check-limit k a r q e f p s = same p s
 
+-- tables
+
+one-powers-of : OneResult powers-of.Post
+one-powers-of k a r q e f p s = same p s
+
+one-x-bar : OneResult x-bar.Post
+one-x-bar k a r q e f p s = same p s
+
+one-y-bar : OneResult y-bar.Post
+one-y-bar k a r q e f p s = same p s
+
+one-z-bar : OneResult z-bar.Post
+one-z-bar k a r q e f p s = same p s
+
+one-x-bar-10 : OneResult x-bar-10.Post
+one-x-bar-10 k a r q e f p s = same p s
+
+one-y-bar-10 : OneResult y-bar-10.Post
+one-y-bar-10 k a r q e f p s = same p s
+
+one-z-bar-10 : OneResult z-bar-10.Post
+one-z-bar-10 k a r q e f p s = same p s
+
+one-v-prime : OneResult v-prime.Post
+one-v-prime k a r q e f p s = same p s
+
 -- curves
 
-one-weight : OneResult weight.Post
-one-weight k a r q e f p s = same p s
+one-colour-of : OneResult colour-of.Post
+one-colour-of k a r q e f p s = same p s
 
 one-weigh : OneResult (Fitting ShortFits weigh.Post)
 one-weigh k a r q e f p s = same-short (p .0) (s .0) (same (p .1) (s .1))
 
-one-lit-by-a : OneResult lit-by-a.Post
-one-lit-by-a k a r q e f p s = refl
-
-left-lit-by-a-high : OneExit (λ e. e .1 .0 .now) (Kept (λ e. e .1 .0 .now) lit-by-a.Post)
-left-lit-by-a-high k a r q e f p s = same-row _ (p .0) (s .0) (p .1 .upper) (s .1 .upper)
-
-left-lit-by-a-low : OneExit (λ e. e .1 .1 .0 .now) (Kept (λ e. e .1 .1 .0 .now) lit-by-a.Post)
-left-lit-by-a-low k a r q e f p s = same-row _ (p .0) (s .0) (p .1 .lower) (s .1 .lower)
-
-one-lit-by-d65 : OneResult lit-by-d65.Post
-one-lit-by-d65 k a r q e f p s = refl
-
-left-lit-by-d65-high : OneExit (λ e. e .1 .0 .now) (Kept (λ e. e .1 .0 .now) lit-by-d65.Post)
-left-lit-by-d65-high k a r q e f p s = same-row _ (p .0) (s .0) (p .1 .upper) (s .1 .upper)
-
-left-lit-by-d65-low : OneExit (λ e. e .1 .1 .0 .now) (Kept (λ e. e .1 .1 .0 .now) lit-by-d65.Post)
-left-lit-by-d65-low k a r q e f p s = same-row _ (p .0) (s .0) (p .1 .lower) (s .1 .lower)
-
-one-sums-2 : OneResult (Fitting SumsFit sums-2.Post)
-one-sums-2 k a r q e f p s =
+one-row-sums : OneResult (Fitting SumsFit row-sums.Post)
+one-row-sums k a r q e f p s =
     same-sums (p .0) (s .0) (same (p .1 .x) (s .1 .x)) (same (p .1 .y) (s .1 .y)) (same (p .1 .z) (s .1 .z))
 
-one-sums-10 : OneResult (Fitting SumsFit sums-10.Post)
-one-sums-10 k a r q e f p s =
+one-lit-by : OneResult lit-by.Post
+one-lit-by k a r q e f p s = refl
+
+left-lit-by-high : OneExit (λ e. e .1 .1 .0 .now) (Kept (λ e. e .1 .1 .0 .now) lit-by.Post)
+left-lit-by-high k a r q e f p s = same-row _ (p .0) (s .0) (p .1 .upper) (s .1 .upper)
+
+left-lit-by-low : OneExit (λ e. e .1 .1 .1 .0 .now) (Kept (λ e. e .1 .1 .1 .0 .now) lit-by.Post)
+left-lit-by-low k a r q e f p s = same-row _ (p .0) (s .0) (p .1 .lower) (s .1 .lower)
+
+one-split-sums : OneResult (Fitting SumsFit split-sums.Post)
+one-split-sums k a r q e f p s =
     same-sums (p .0) (s .0) (same (p .1 .x) (s .1 .x)) (same (p .1 .y) (s .1 .y)) (same (p .1 .z) (s .1 .z))
 
 -- spectrum
@@ -180,10 +203,6 @@ one-row-from : OneResult row-from.Post
 one-row-from k a r q e f p s = same p s
 
 -- answers
-
-one-row-sums : OneResult (Fitting SumsFit row-sums.Post)
-one-row-sums k a r q e f p s =
-    same-sums (p .0) (s .0) (same (p .1 .x) (s .1 .x)) (same (p .1 .y) (s .1 .y)) (same (p .1 .z) (s .1 .z))
 
 one-reading-from : OneResult reading-from.Post
 one-reading-from k a r q e f p s = same p s

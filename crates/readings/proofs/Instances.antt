@@ -1,5 +1,5 @@
 -- The promises of mixing and of order at each reading: instances of the laws, by the linearity of W.
-use mathlib.Core.Path.{_≡_, refl, _∙_, sym, ap}
+use mathlib.Core.Path.{_≡_, refl, _∙_, sym}
 use mathlib.Core.Bool.{Bool, true, false}
 use mathlib.Core.List.{List}
 use Prim.Native.Nat.{ℕ, _+_, _*_, _-_, _^_, _≤_, _<_}
@@ -8,19 +8,18 @@ use native.Mathlib.Omega.{arith}
 use borrow.Author.Tests.{leb-true}
 use lib.ListN.{length, getD}
 use lib.Dec.{leb}
-use Rattle.grid.specs.declared.Check.the-variants.{Fine, Refused}
-use Rattle.grid.specs.Check.{gridCheck, samplesCheck, isObserver}
+use Rattle.grid.specs.declared.Check.the-variants.{Fine}
+use Rattle.grid.specs.Check.{isObserver, lightCheck}
 use Rattle.grid.proofs.Limit.{within-fine}
 use Rattle.mixing.specs.Mixture.{mix, Linear}
 use Rattle.mixing.proofs.Mixture.{length-mix, getD-mix, linear-plus, linear-times}
-use Rattle.curves.specs.declared.Curve.{Curve}
-use Rattle.curves.specs.declared.Curve.the-variants.{XBar, YBar, ZBar, XBar10, YBar10, ZBar10, VPrime}
-use Rattle.curves.specs.Curves.{weightOf}
-use Rattle.grid.specs.Check.{lightCheck}
+use Rattle.tables.specs.declared.Curve.{Curve}
+use Rattle.tables.specs.declared.Curve.the-variants.{YBar, VPrime}
+use Rattle.tables.specs.Curves.{weightOf}
 use Rattle.spectrum.proofs.Measured.{W-linear}
 use Rattle.grid.proofs.Light.{grid-fine, on-grid}
 use Rattle.answers.specs.Said.{saidReading, saidXyz, saidXy}
-use Rattle.answers.specs.Sums.{ofObserver}
+use Rattle.curves.specs.Colour.{ofObserver, colourOf}
 use Rattle.answers.proofs.Mixed.{reading-unit, reading-order, xyz-unit, xyz-order, xy-between, xy-one-dark}
 use Rattle.readings.specs.Readings.{weighed, illuminanceOf, mesopicOf, mesopicSum, mesopicDivisor, xSum, ySum, zSum, xyzOf, xyOf}
 use Rattle.readings.specs.Promises.{Mixable, OneUnit, InOrder, BothLit, OneDark}
@@ -106,13 +105,13 @@ module _ (k : ℕ) where
 
 module _ (o : ℕ) where
   x-linear : (n a s : ℕ) → Linear n (λ xs. xSum o a s xs)
-  x-linear n a s = curve-linear n (ofObserver o XBar XBar10) a s
+  x-linear n a s = curve-linear n (colourOf o .x) a s
 
   y-linear : (n a s : ℕ) → Linear n (λ xs. ySum o a s xs)
-  y-linear n a s = curve-linear n (ofObserver o YBar YBar10) a s
+  y-linear n a s = curve-linear n (colourOf o .y) a s
 
   z-linear : (n a s : ℕ) → Linear n (λ xs. zSum o a s xs)
-  z-linear n a s = curve-linear n (ofObserver o ZBar ZBar10) a s
+  z-linear n a s = curve-linear n (colourOf o .z) a s
 
   -- colours that are given have an observer
   xyz-observer : (a s : ℕ) (xs : List ℕ) → saidXyz (xyzOf o a s xs) .number ≡ 0 → isObserver o ≡ true

@@ -7,7 +7,7 @@ use Rattle.exact.specs.Value.{short}
 use Rattle.spectrum.specs.Line.{rowOf}
 use Rattle.spectrum.proofs.Light.{row-weighed}
 use Rattle.curves.specs.declared.weigh.Sums.{Sums}
-use Rattle.answers.specs.Sums.{RowSums}
+use Rattle.curves.specs.Colour.{RowSums}
 use Rattle.readings.specs.Readings.{colourCheck}
 use Rattle.readings.specs.Colour.{LightSums}
 use Rattle.readings.proofs.Small.{colour-fine, colour-small}

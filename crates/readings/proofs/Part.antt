@@ -6,15 +6,14 @@ use lib.ListN.{length}
 use Rattle.grid.specs.declared.Check.the-variants.{Fine}
 use Rattle.grid.specs.Check.{lightCheck}
 use Rattle.grid.proofs.Light.{within, on-grid}
-use Rattle.curves.specs.declared.Curve.{Curve}
-use Rattle.curves.specs.declared.Curve.the-variants.{XBar, YBar, ZBar, XBar10, YBar10, ZBar10}
+use Rattle.tables.specs.declared.Curve.{Curve}
 use Rattle.curves.specs.declared.weigh.Sums.{Sums}
-use Rattle.curves.specs.Curves.{weightOf}
+use Rattle.tables.specs.Curves.{weightOf}
 use Rattle.spectrum.specs.Begin.{Begins, Begun}
 use Rattle.spectrum.specs.declared.line.Begin.{Begin}
 use Rattle.spectrum.proofs.Begin.{partFrom, W-begun}
 use Rattle.spectrum.proofs.Begin as begin
-use Rattle.answers.specs.Sums.{ofObserver}
+use Rattle.curves.specs.Colour.{colourOf}
 use Rattle.readings.specs.Readings.{weighed}
 use Rattle.readings.specs.Colour.{LightSums}
 
@@ -35,7 +34,7 @@ module _ (a s : ℕ) (xs : List ℕ) (fine : lightCheck a s xs ≡ Fine) where
 
     pub colour-begun : (o : ℕ) (sums : Sums) → LightSums o (b .wavelength) s (partFrom (b .place) xs) sums → LightSums o a s xs sums
     colour-begun o sums part = record {
-      x = part .x ∙ weighed-begun (ofObserver o XBar XBar10);
-      y = part .y ∙ weighed-begun (ofObserver o YBar YBar10);
-      z = part .z ∙ weighed-begun (ofObserver o ZBar ZBar10);
+      x = part .x ∙ weighed-begun (colourOf o .x);
+      y = part .y ∙ weighed-begun (colourOf o .y);
+      z = part .z ∙ weighed-begun (colourOf o .z);
     }

@@ -12,9 +12,9 @@ use Rattle.grid.proofs.Limit.{within-fine}
 use Rattle.mixing.specs.Sum.{weighted}
 use Rattle.mixing.proofs.Sum.{total-none}
 use Rattle.mixing.proofs.Nearest.{nearest-none}
-use Rattle.curves.specs.declared.Curve.{Curve}
-use Rattle.curves.specs.declared.Curve.the-variants.{XBar, YBar, ZBar, XBar10, YBar10, ZBar10, VPrime}
-use Rattle.curves.specs.Curves.{weightOf}
+use Rattle.tables.specs.declared.Curve.{Curve}
+use Rattle.tables.specs.declared.Curve.the-variants.{YBar, VPrime}
+use Rattle.tables.specs.Curves.{weightOf}
 use Rattle.spectrum.specs.Line.{lineAt, isMeasured, endRule, T, W}
 use Rattle.answers.specs.declared.OnChart.{OnChart}
 use Rattle.answers.specs.declared.Reading.{Reading}
@@ -22,7 +22,7 @@ use Rattle.answers.specs.declared.XyzAnswer.{XyzAnswer}
 use Rattle.answers.specs.declared.XyAnswer.{XyAnswer}
 use Rattle.answers.specs.declared.ChartAnswer.{ChartAnswer}
 use Rattle.answers.specs.Worked.{readingFrom, xyzFrom, xyFrom, onChart}
-use Rattle.answers.specs.Sums.{ofObserver}
+use Rattle.curves.specs.Colour.{ofObserver, colourOf}
 use Rattle.readings.specs.declared.report.FiguresAnswer.{FiguresAnswer}
 use Rattle.readings.specs.Readings.{weighed, illuminanceOf, mesopicOf, xyzOf, xyOf, chartOf, figuresOf}
 use Rattle.readings.specs.Promises.{Unlit, Colourless}
@@ -63,14 +63,14 @@ module _ (a s : ℕ) (xs : List ℕ) (fine : lightCheck a s xs ≡ Fine) where
       rw (le-leb k 1000 h, fine, no-sum YBar day, no-sum VPrime night, mul-zero k, mul-zero (1000 - k), nearest-none)
 
   module _ (o : ℕ) (e : isObserver o ≡ true) (unlit : Colourless o a s xs) where
-    no-x : weighed (ofObserver o XBar XBar10) a s xs ≡ 0
-    no-x = no-sum (ofObserver o XBar XBar10) (unlit .0)
+    no-x : weighed (colourOf o .x) a s xs ≡ 0
+    no-x = no-sum (colourOf o .x) (unlit .0)
 
-    no-y : weighed (ofObserver o YBar YBar10) a s xs ≡ 0
-    no-y = no-sum (ofObserver o YBar YBar10) (unlit .1)
+    no-y : weighed (colourOf o .y) a s xs ≡ 0
+    no-y = no-sum (colourOf o .y) (unlit .1)
 
-    no-z : weighed (ofObserver o ZBar ZBar10) a s xs ≡ 0
-    no-z = no-sum (ofObserver o ZBar ZBar10) (unlit .2)
+    no-z : weighed (colourOf o .z) a s xs ≡ 0
+    no-z = no-sum (colourOf o .z) (unlit .2)
 
     pub no-xyz : xyzOf o a s xs ≡ XyzAnswer.Value (record { x = 0; y = 0; z = 0 })
     unfolding xyzOf xyzFrom

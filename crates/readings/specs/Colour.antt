@@ -4,7 +4,7 @@ use mathlib.Core.List.{List}
 use Prim.Native.Nat.{ℕ}
 use Rattle.exact.specs.Value.{short}
 use Rattle.curves.specs.declared.weigh.Sums.{Sums}
-use Rattle.curves.specs.declared.Curve.the-variants.{VPrime}
+use Rattle.tables.specs.declared.Curve.the-variants.{VPrime}
 use Rattle.readings.specs.declared.sums.FigureSums.{FigureSums}
 use Rattle.readings.specs.Readings.{weighed, xSum, ySum, zSum}
 

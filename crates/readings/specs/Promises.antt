@@ -7,15 +7,14 @@ use lib.ListN.{length, replicate}
 use Rattle.grid.specs.declared.Check.the-variants.{Fine}
 use Rattle.grid.specs.Check.{Within, refusal, isObserver, gridCheck, lightCheck}
 use Rattle.mixing.specs.Mixture.{mix, Below}
-use Rattle.mixing.specs.Promise.{Between}
-use Rattle.mixing.specs.Promise.{Within as Differ}
-use Rattle.curves.specs.declared.Curve.{Curve}
-use Rattle.curves.specs.declared.Curve.the-variants.{XBar, YBar, ZBar, XBar10, YBar10, ZBar10, VPrime}
-use Rattle.curves.specs.Curves.{weightOf}
+use Rattle.mixing.specs.Promise.{Between, Within as Differ}
+use Rattle.tables.specs.declared.Curve.{Curve}
+use Rattle.tables.specs.declared.Curve.the-variants.{YBar, YBar10, VPrime}
+use Rattle.tables.specs.Curves.{weightOf}
 use Rattle.spectrum.specs.Line.{T}
 use Rattle.grid.specs.Said.{Said, value, given, refusedWith}
 use Rattle.answers.specs.Said.{saidReading, saidXyz, saidXy, saidChart}
-use Rattle.answers.specs.Sums.{ofObserver}
+use Rattle.curves.specs.Colour.{colourOf}
 use Rattle.readings.specs.Readings.{photopicOf, scotopicOf, photopic10Of, mesopicOf, xyzOf, xyOf, chartOf, figuresOf}
 use Rattle.readings.specs.Figures.{saidFigures}
 
@@ -80,7 +79,7 @@ Unlit c a s xs = (k : ℕ) → weightOf c k * T a s xs (360 + k) ≡ 0
 -- and none where any of the observer's three has
 abbrev pub Colourless : ℕ → ℕ → ℕ → List ℕ → Type 0
 Colourless o a s xs =
-    Unlit (ofObserver o XBar XBar10) a s xs × Unlit (ofObserver o YBar YBar10) a s xs × Unlit (ofObserver o ZBar ZBar10) a s xs
+    Unlit (colourOf o .x) a s xs × Unlit (colourOf o .y) a s xs × Unlit (colourOf o .z) a s xs
 
 -- one reading of zero; X, Y and Z of zero; a colour refused as dark
 abbrev pub nought : Said

@@ -3,18 +3,17 @@ use mathlib.Core.List.{List}
 use Prim.Native.Nat.{ℕ, _+_, _*_, _-_, _^_}
 use lib.Dec.{leb}
 use Rattle.grid.specs.declared.Check.{Check}
-use Rattle.grid.specs.Check.{unless, require, isObserver}
-use Rattle.curves.specs.declared.Curve.{Curve}
-use Rattle.curves.specs.declared.Curve.the-variants.{XBar, YBar, ZBar, XBar10, YBar10, ZBar10, VPrime}
-use Rattle.curves.specs.Curves.{weightOf}
-use Rattle.grid.specs.Check.{lightCheck}
+use Rattle.grid.specs.Check.{unless, require, isObserver, lightCheck}
+use Rattle.tables.specs.declared.Curve.{Curve}
+use Rattle.tables.specs.declared.Curve.the-variants.{YBar, YBar10, VPrime}
+use Rattle.tables.specs.Curves.{weightOf}
 use Rattle.spectrum.specs.Line.{W}
 use Rattle.answers.specs.declared.Reading.{Reading}
 use Rattle.answers.specs.declared.XyzAnswer.{XyzAnswer}
 use Rattle.answers.specs.declared.XyAnswer.{XyAnswer}
 use Rattle.answers.specs.declared.ChartAnswer.{ChartAnswer}
 use Rattle.answers.specs.Worked.{readingFrom, xyzFrom, xyFrom, onChart}
-use Rattle.answers.specs.Sums.{ofObserver}
+use Rattle.curves.specs.Colour.{ofObserver, colourOf}
 use Rattle.readings.specs.declared.report.FiguresAnswer.{FiguresAnswer}
 
 -- W of a curve
@@ -60,13 +59,13 @@ abbrev pub colourCheck : ℕ → ℕ → ℕ → List ℕ → Check
 colourCheck o a s xs = require (isObserver o) 6 (lightCheck a s xs)
 
 abbrev pub xSum : ℕ → ℕ → ℕ → List ℕ → ℕ
-xSum o a s xs = weighed (ofObserver o XBar XBar10) a s xs
+xSum o a s xs = weighed (colourOf o .x) a s xs
 
 abbrev pub ySum : ℕ → ℕ → ℕ → List ℕ → ℕ
-ySum o a s xs = weighed (ofObserver o YBar YBar10) a s xs
+ySum o a s xs = weighed (colourOf o .y) a s xs
 
 abbrev pub zSum : ℕ → ℕ → ℕ → List ℕ → ℕ
-zSum o a s xs = weighed (ofObserver o ZBar ZBar10) a s xs
+zSum o a s xs = weighed (colourOf o .z) a s xs
 
 -- X, Y, Z in millilux: 683 W / (s · 10^16), and 684 for observer 10
 unfoldable pub xyzOf : ℕ → ℕ → ℕ → List ℕ → XyzAnswer

@@ -1,13 +1,13 @@
 // The weighted sums of a light. Each is lent the part of the row that begins at the sample at or just below 360 nm, lays
 // the line over it once, and weighs that by every curve it is asked for.
-use answers::sums::row_sums;
-use curves::Curve;
 use curves::weigh::Sums;
+use curves::weigh::row_sums;
 use curves::weigh::weigh;
 use exact::digits::Short;
 use exact::digits::joined;
 use exact::digits::short_times_plus;
 use spectrum::line::row_from;
+use tables::Curve;
 ghost use mathlib.Core.Path.{_≡_};
 ghost use Prim.Native.Nat.{_≤_};
 ghost use Rattle.exact.specs.Value.{short};

@@ -8,8 +8,7 @@ use lib.ListN.{length, take, drop, length-drop}
 use lib.Seq.{take-all, getD-drop}
 use Rattle.grid.specs.Check.{Within}
 use Rattle.grid.proofs.Accepted.{OnGrid}
-use Rattle.mixing.specs.Sum.{weighted}
-use Rattle.curves.specs.Curves.{entryOf}
+use Rattle.mixing.specs.Sum.{weighted, entryOf}
 use Rattle.spectrum.specs.Line.{rowOf, W}
 use Rattle.spectrum.specs.Begin.{Begins, Begun}
 use Rattle.spectrum.specs.declared.line.Begin.{Begin}

@@ -1,13 +1,12 @@
--- What the row of samples within a limit is: small enough to be weighed, and W when it is.
+-- What the row of samples within a limit is: small enough to be weighed, and W when it is, which has a bound.
 use mathlib.Core.Path.{_≡_}
 use mathlib.Core.List.{List}
 use Prim.Native.Nat.{ℕ, _+_, _*_, _≤_}
-use native.Mathlib.Nat.{le-trans, mul-le-mul-right}
+use native.Mathlib.Nat.{le-refl, le-trans, mul-le-mul-right}
 use Rattle.grid.specs.Check.{Within}
 use Rattle.grid.proofs.Limit.{within-row}
-use Rattle.mixing.specs.Sum.{weighted}
-use Rattle.mixing.proofs.Sum.{weighted-ext}
-use Rattle.curves.specs.Curves.{entryOf}
+use Rattle.mixing.specs.Sum.{total, weighted, entryOf}
+use Rattle.mixing.proofs.Sum.{weighted-ext, weighted-bound}
 use Rattle.spectrum.specs.Line.{T, listed, rowOf, W}
 use Rattle.spectrum.specs.Begin.{Begun}
 use Rattle.spectrum.proofs.Measured.{T-bound}
@@ -33,3 +32,10 @@ pub row-weighed : (v : ℕ → ℕ) (a s : ℕ) (xs : List ℕ) → weighted 471
 unfolding W rowOf
 row-weighed v a s xs =
     weighted-ext 471 v (entryOf (rowOf a s xs)) (λ k. T a s xs (360 + k)) (getD-listed 471 (λ q. T a s xs (360 + q)))
+
+-- by any weights, no row within a limit passes the one that is at the limit everywhere
+pub W-bound :
+    (v : ℕ → ℕ) (a s limit : ℕ) (xs : List ℕ) → 1 ≤ s → Within limit xs → W v a s xs ≤ s * limit * total 471 v
+unfolding W
+W-bound v a s limit xs low within =
+    weighted-bound (s * limit) 471 471 v (λ k. T a s xs (360 + k)) (λ k. T-bound a s limit xs within (360 + k) low) (le-refl 471)

@@ -5,8 +5,8 @@ use native.Mathlib.Omega.{arith}
 use Rattle.grid.specs.Check.{gridCheck, limitCheck, lightCheck}
 use Rattle.mixing.specs.Nearest.{nearest}
 use Rattle.mixing.specs.Sum.{total, weighted}
-use Rattle.curves.specs.Tables.{xBar, yBar, zBar}
-use Rattle.curves.specs.Curves.{table}
+use Rattle.tables.specs.Tables.{xBar, yBar, zBar}
+use Rattle.tables.specs.Curves.{table}
 use Rattle.spectrum.specs.Line.{T, lineAt, endRule, W}
 use Rattle.answers.specs.Worked.{readingFrom, xyzFrom, xyFrom}
 use Rattle.readings.specs.Readings.{illuminanceOf, xyzOf, xyOf}

@@ -5,7 +5,7 @@ use native.Mathlib.Nat.{mul-comm}
 use native.Mathlib.Omega.{arith}
 use lib.ListN.{length}
 use Rattle.exact.specs.Value.{short}
-use Rattle.curves.specs.declared.Curve.the-variants.{YBar, VPrime}
+use Rattle.tables.specs.declared.Curve.the-variants.{YBar, VPrime}
 use Rattle.grid.proofs.Light.{on-grid}
 use Rattle.readings.specs.Readings.{mesopicWeighed, mesopicDivisor}
 use Rattle.readings.proofs.Small.{mesopic-divisor-kept}

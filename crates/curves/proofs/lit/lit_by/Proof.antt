@@ -1,114 +1,21 @@
--- The loop's invariant: the places passed hold the product's two parts.
-use mathlib.Core.Path.{_≡_, ap, subst}
-use Prim.Native.Nat.{_*_, _-_, _/_, _%_, _^_, _≤_}
-use native.Mathlib.Omega.{arith}
+-- The table that is lent is the illuminant's, none of whose entries is above 26,160,200.
+use Rattle.tables.specs.Curves.{powers}
+use Rattle.tables.proofs.Columns.{power-bound}
 use borrow.Author.Needs.{needs}
-use lib.ListN.{getD}
-use Rattle.curves.proofs.Filled.{FilledTo, fill-more, filled-within}
-use Rattle.curves.proofs.Product.{product, product-small}
 use Rattle.curves.proofs.lit.lit_by.Statement.{statement}
 use Rattle.curves.proofs.lit.lit_by.Tie as tie
 
-abbrev Inv-loop : tie.InvT-loop
-Inv-loop illuminant row high₀ low₀ k₀ high low k =
-    (k ≤ 471)
-    × FilledTo 471 (λ j. getD illuminant j 0 * getD row j 0 / 2 ^ 21) high k
-    × FilledTo 471 (λ j. getD illuminant j 0 * getD row j 0 % 2 ^ 21) low k
+powers-of-requires : tie.Need-powers-of-requires
+powers-of-requires c κs = search needs
 
-abbrev μ-loop : tie.MeasureT-loop
-μ-loop illuminant row high₀ low₀ k₀ high low k = 471 - k
+split-requires : tie.Need-split-requires
+split-requires c κs =
+    let start = c .before .before .before .before in
+    let given = start .pre in
+    (given .0, given .1, rw (c .before .before .before .powers-of .ensures) (power-bound (start .args .illuminant)), given .2)
 
-loop-holds : tie.Need-loop-holds Inv-loop μ-loop
-loop-holds c = (
-  omega arith,
-  record { long = c .pre .0; filled = λ q h. absurd (omega arith) },
-  record { long = c .pre .1; filled = λ q h. absurd (omega arith) },
-)
-
-mul-product : tie.Need-mul-product Inv-loop μ-loop
-mul-product c = search needs
-
-element-copy-out-product : tie.Need-element-copy-out-product Inv-loop μ-loop
-element-copy-out-product c = search needs
-
-mul-product-2 : tie.Need-mul-product-2 Inv-loop μ-loop
-mul-product-2 c = search needs
-
-element-copy-out-product-2 : tie.Need-element-copy-out-product-2 Inv-loop μ-loop
-element-copy-out-product-2 c = search needs
-
-mul-product-3 : tie.Need-mul-product-3 Inv-loop μ-loop
-mul-product-3 c =
-    let s = c .before .before .before .before in
-    let k = c .before .before .before .loop .k in
-    let e = product (getD (s .args .illuminant .now) k 0) (getD (s .args .row .now) k 0) (s .pre .2 k) (s .pre .3 k) in
-    let h = product-small (getD (s .args .illuminant .now) k 0) (getD (s .args .row .now) k 0) (s .pre .2 k) (s .pre .3 k) in
-    omega arith
-
-mul-high : tie.Need-mul-high Inv-loop μ-loop
-mul-high c = search needs
-
-element-write-high : tie.Need-element-write-high Inv-loop μ-loop
-element-write-high c = search needs
-
-mul-low : tie.Need-mul-low Inv-loop μ-loop
-mul-low c = search needs
-
-element-write-low : tie.Need-element-write-low Inv-loop μ-loop
-element-write-low c = search needs
-
-add-k : tie.Need-add-k Inv-loop μ-loop
-add-k c = search needs
-
-loop-less : tie.Need-loop-less Inv-loop μ-loop
-loop-less c = search needs
-
-loop-again : tie.Need-loop-again Inv-loop μ-loop
-loop-again c =
-    let s = c .before .before .before .before in
-    let l = c .before .before .before .loop in
-    let i = s .args .illuminant .now in
-    let r = s .args .row .now in
-    let e = product (getD i (l .k) 0) (getD r (l .k) 0) (s .pre .2 (l .k)) (s .pre .3 (l .k)) in (
-      omega arith,
-      fill-more 471 (λ j. getD i j 0 * getD r j 0 / 2 ^ 21) (l .high) (l .k) _ (l .inv .1) (omega arith) (ap (λ x. x / 2 ^ 21) e),
-      fill-more 471 (λ j. getD i j 0 * getD r j 0 % 2 ^ 21) (l .low) (l .k) _ (l .inv .2) (omega arith) (ap (λ x. x % 2 ^ 21) e),
-    )
-
-returns : tie.Need-returns Inv-loop μ-loop
-returns c =
-    let s = c .before .before in
-    let i = s .args .illuminant .now in
-    let r = s .args .row .now in
-    let l = c .before .loop in
-    let end : l .k ≡ 471 = omega arith in
-    let high = subst (λ k. FilledTo 471 (λ j. getD i j 0 * getD r j 0 / 2 ^ 21) (l .high) k) end (l .inv .1) in
-    let low = subst (λ k. FilledTo 471 (λ j. getD i j 0 * getD r j 0 % 2 ^ 21) (l .low) k) end (l .inv .2) in
-    record {
-      upper = high .filled;
-      lower = low .filled;
-      high-small = filled-within 471 10000000 _ (l .high) high
-          (λ k. let h = product-small (getD i k 0) (getD r k 0) (s .pre .2 k) (s .pre .3 k) in omega arith);
-      low-small = filled-within 471 10000000 _ (l .low) low (λ k. omega arith);
-    }
+returns : tie.Need-returns
+returns c = rw (c .before .before .before .before .powers-of .ensures) at (c .split .ensures)
 
 pub lit-by-spec : {M : Type 1} → statement M
-lit-by-spec =
-    tie.close
-    (tie.spec
-    Inv-loop
-    μ-loop
-    loop-holds
-    mul-product
-    element-copy-out-product
-    mul-product-2
-    element-copy-out-product-2
-    mul-product-3
-    mul-high
-    element-write-high
-    mul-low
-    element-write-low
-    add-k
-    loop-less
-    loop-again
-    returns)
+lit-by-spec = tie.close (tie.spec powers-of-requires split-requires returns)

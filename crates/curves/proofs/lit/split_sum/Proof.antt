@@ -4,7 +4,7 @@ use Prim.Native.Nat.{_-_, _≤_}
 use native.Mathlib.Omega.{arith}
 use borrow.Author.Needs.{needs}
 use Rattle.mixing.specs.Sum.{total, weighted}
-use Rattle.curves.specs.Curves.{entryOf}
+use Rattle.mixing.specs.Sum.{entryOf}
 use Rattle.curves.proofs.Rows.{upper, lower, next, next-fits, whole}
 use Rattle.curves.proofs.lit.split_sum.Statement.{statement}
 use Rattle.curves.proofs.lit.split_sum.Tie as tie

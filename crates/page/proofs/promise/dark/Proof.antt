@@ -5,7 +5,7 @@ use Prim.Native.Nat.{ℕ}
 use lib.ListN.{replicate}
 use Rattle.grid.specs.declared.Check.the-variants.{Fine}
 use Rattle.grid.specs.Check.{gridCheck, lightCheck}
-use Rattle.curves.specs.declared.Curve.the-variants.{XBar, YBar, ZBar, VPrime}
+use Rattle.tables.specs.declared.Curve.the-variants.{XBar, YBar, ZBar, VPrime}
 use Rattle.readings.specs.Readings.{figuresOf}
 use Rattle.readings.proofs.Unlit.{zeros-accepted, zeros, no-figures}
 use Rattle.record.specs.Format.{recordOf}

@@ -2,7 +2,7 @@
 use mathlib.Core.Path.{sym, _∙_}
 use borrow.Author.Tests.{ne-eqb}
 use Rattle.panel.specs.Panel.{whiteSum}
-use Rattle.panel.proofs.Computed.{a-white, a-white-10, d65-white, d65-white-10}
+use Rattle.tables.proofs.White.{a-white, a-white-10, d65-white, d65-white-10}
 use borrow.Author.Needs.{needs}
 use Rattle.panel.proofs.white.white.Statement.{statement}
 use Rattle.panel.proofs.white.white.Tie as tie

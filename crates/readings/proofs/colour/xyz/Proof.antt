@@ -4,7 +4,7 @@ use Prim.Native.Nat.{ℕ}
 use native.Mathlib.Nat.{mul-comm}
 use Rattle.grid.specs.declared.Check.the-variants.{Fine}
 use Rattle.grid.proofs.Light.{on-grid}
-use Rattle.answers.specs.Sums.{ofObserver}
+use Rattle.curves.specs.Colour.{ofObserver}
 use Rattle.readings.specs.Readings.{colourCheck, xSum, ySum, zSum, xyzOf}
 use Rattle.readings.proofs.Small.{colour-fine}
 use borrow.Author.Needs.{needs}

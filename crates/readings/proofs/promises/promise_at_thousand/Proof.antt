@@ -6,7 +6,7 @@ use native.Mathlib.Nat.{div-div-eq-div-mul, mul-div-cancel}
 use native.Mathlib.Omega.{arith}
 use lib.Dec.{lit≤}
 use Rattle.mixing.specs.Nearest.{nearest}
-use Rattle.curves.specs.declared.Curve.the-variants.{YBar}
+use Rattle.tables.specs.declared.Curve.the-variants.{YBar}
 use Rattle.answers.specs.Said.{saidReading}
 use Rattle.answers.specs.Worked.{readingFrom}
 use Rattle.readings.specs.Readings.{weighed, illuminanceOf, mesopicOf, mesopicSum, mesopicDivisor}

@@ -1,6 +1,6 @@
 -- With no light where a curve has any weight, its sum is 0.
 use mathlib.Core.Path.{ap}
-use Rattle.curves.specs.declared.Curve.the-variants.{YBar, VPrime, YBar10}
+use Rattle.tables.specs.declared.Curve.the-variants.{YBar, VPrime, YBar10}
 use Rattle.answers.specs.Said.{saidReading, saidXyz, saidXy, saidChart}
 use Rattle.readings.specs.Figures.{saidFigures}
 use Rattle.readings.proofs.Unlit.{zeros-accepted, zeros, no-illuminance, no-mesopic, no-xyz, no-xy, no-point, no-figures}

@@ -1,5 +1,5 @@
 -- Each promise is an instance of the laws.
-use Rattle.curves.specs.declared.Curve.the-variants.{YBar, VPrime, YBar10}
+use Rattle.tables.specs.declared.Curve.the-variants.{YBar, VPrime, YBar10}
 use Rattle.readings.proofs.Instances.{accepted, illuminance-unit, mesopic-unit, xyz-mixed, between, one-dark}
 use Rattle.readings.proofs.promises.promise_mixing.Statement.{statement}
 use Rattle.readings.proofs.promises.promise_mixing.Tie as tie

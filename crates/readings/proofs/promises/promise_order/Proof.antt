@@ -1,5 +1,5 @@
 -- Each promise is an instance of the laws.
-use Rattle.curves.specs.declared.Curve.the-variants.{YBar, VPrime, YBar10}
+use Rattle.tables.specs.declared.Curve.the-variants.{YBar, VPrime, YBar10}
 use Rattle.readings.proofs.Instances.{illuminance-order, mesopic-order, xyz-ordered}
 use Rattle.readings.proofs.promises.promise_order.Statement.{statement}
 use Rattle.readings.proofs.promises.promise_order.Tie as tie

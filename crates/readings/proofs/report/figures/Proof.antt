@@ -6,7 +6,7 @@ use lib.ListN.{length}
 use Rattle.grid.specs.declared.Check.the-variants.{Fine}
 use Rattle.grid.specs.Check.{lightCheck}
 use Rattle.grid.proofs.Light.{on-grid}
-use Rattle.curves.specs.declared.Curve.the-variants.{VPrime}
+use Rattle.tables.specs.declared.Curve.the-variants.{VPrime}
 use Rattle.readings.specs.Readings.{illuminanceOf, xyzOf, xyOf}
 use Rattle.readings.specs.Colour.{LightSums}
 use Rattle.readings.proofs.Small.{colour-small}

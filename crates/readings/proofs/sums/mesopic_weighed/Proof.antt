@@ -2,7 +2,7 @@
 use mathlib.Core.Path.{_∙_}
 use Prim.Native.Nat.{_-_}
 use native.Mathlib.Omega.{arith}
-use Rattle.curves.specs.declared.Curve.the-variants.{YBar, VPrime}
+use Rattle.tables.specs.declared.Curve.the-variants.{YBar, VPrime}
 use Rattle.spectrum.proofs.Light.{begun-small, row-weighed}
 use Rattle.readings.specs.Readings.{weighed}
 use Rattle.readings.proofs.Small.{sum-small, mesopic-sum-kept}

@@ -1,0 +1,5 @@
+-- Laws of the tables.
+pub mod Largest
+pub mod Columns
+pub mod Sums
+pub mod White

@@ -1,0 +1,31 @@
+-- What a curve's weights can add up to, alone and under an illuminant.
+use Prim.Native.Nat.{_*_, _≤_}
+use native.Mathlib.Nat.{le-refl, le-trans, mul-le-mul-left}
+use lib.Dec.{lit≤}
+use Rattle.mixing.specs.Sum.{total, weighted}
+use Rattle.mixing.proofs.Sum.{weighted-bound, weighted-swap}
+use Rattle.tables.specs.Curves.{weightOf, powerOf}
+use Rattle.tables.specs.Columns.{tableSum}
+use Rattle.tables.proofs.Columns.{column-total, power-bound}
+use Rattle.tables.specs.declared.Curve.{Curve}
+use Rattle.tables.specs.declared.Curve.the-variants.{XBar, YBar, ZBar, XBar10, YBar10, ZBar10, VPrime}
+use Rattle.tables.specs.declared.Illuminant.{Illuminant}
+
+pub curve-sum : (c : Curve) → total 471 (weightOf c) ≤ 2000000000000000
+curve-sum c = rw (column-total c) (few c)
+  where
+    few : (c : Curve) → tableSum c ≤ 2000000000000000
+    few XBar = lit≤ tt
+    few YBar = lit≤ tt
+    few ZBar = lit≤ tt
+    few XBar10 = lit≤ tt
+    few YBar10 = lit≤ tt
+    few ZBar10 = lit≤ tt
+    few VPrime = lit≤ tt
+
+pub lit-sum : (i : Illuminant) (c : Curve) → total 471 (λ k. powerOf i k * weightOf c k) ≤ 52320400000000000000000
+unfolding weighted
+lit-sum i c =
+    rw (weighted-swap 471 (powerOf i) (weightOf c))
+    (le-trans (weighted-bound 26160200 471 471 (weightOf c) (powerOf i) (power-bound i) (le-refl 471))
+    (mul-le-mul-left 26160200 (curve-sum c)))

@@ -1,0 +1,12 @@
+-- The numbers of the code are those of the definition.
+use mathlib.Core.Path.{refl}
+use Rattle.tables.specs.Tables.{yBar}
+use Rattle.tables.proofs.y_bar.Statement.{statement}
+use Rattle.tables.proofs.y_bar.Tie as tie
+
+returns : tie.Need-returns
+unfolding yBar
+returns c = refl
+
+pub y-bar-spec : {M : Type 1} → statement M
+y-bar-spec = tie.close (tie.spec returns)

@@ -1,0 +1,12 @@
+-- The numbers of the code are those of the definition.
+use mathlib.Core.Path.{refl}
+use Rattle.tables.specs.Tables.{yBar10}
+use Rattle.tables.proofs.y_bar_10.Statement.{statement}
+use Rattle.tables.proofs.y_bar_10.Tie as tie
+
+returns : tie.Need-returns
+unfolding yBar10
+returns c = refl
+
+pub y-bar-10-spec : {M : Type 1} → statement M
+y-bar-10-spec = tie.close (tie.spec returns)

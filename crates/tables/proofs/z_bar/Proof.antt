@@ -1,0 +1,12 @@
+-- The numbers of the code are those of the definition.
+use mathlib.Core.Path.{refl}
+use Rattle.tables.specs.Tables.{zBar}
+use Rattle.tables.proofs.z_bar.Statement.{statement}
+use Rattle.tables.proofs.z_bar.Tie as tie
+
+returns : tie.Need-returns
+unfolding zBar
+returns c = refl
+
+pub z-bar-spec : {M : Type 1} → statement M
+z-bar-spec = tie.close (tie.spec returns)

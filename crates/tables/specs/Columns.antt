@@ -1,0 +1,52 @@
+-- What is computed over a whole table: its length, its sum, its largest entry and the halves of its entries.
+use mathlib.Core.Path.{_≡_}
+use mathlib.Core.List.{List, [], _∷_}
+use Prim.Native.Nat.{ℕ, _/_, _%_, _^_, _≤_, max}
+use lib.ListN.{length, getD}
+use Rattle.mixing.specs.Sum.{total, sumOf}
+use Rattle.tables.specs.declared.Curve.{Curve}
+use Rattle.tables.specs.declared.Curve.the-variants.{XBar, YBar, ZBar, XBar10, YBar10, ZBar10, VPrime}
+use Rattle.tables.specs.declared.Illuminant.{Illuminant}
+use Rattle.tables.specs.declared.Illuminant.the-variants.{A, D65}
+
+-- the largest entry of a list, 0 where it has none
+unfoldable pub largest : List ℕ → ℕ
+largest [] = 0
+largest (x ∷ xs) = max x (largest xs)
+
+-- 471 entries that add up to `sum`, of which `top` is the largest
+pub record Column (xs : List ℕ) (sum top : ℕ) : Type 0 where
+  pub entries : length xs ≡ 471
+  pub adds-up : sumOf xs ≡ sum
+  pub largest-is : largest xs ≡ top
+
+abbrev pub tableSum : Curve → ℕ
+tableSum XBar = 1068654694895950
+tableSum YBar = 1068569171011719
+tableSum ZBar = 1068922512786360
+tableSum XBar10 = 1166485195089080
+tableSum YBar10 = 1166618771023120
+tableSum ZBar10 = 1166739805146470
+tableSum VPrime = 970713165740000
+
+abbrev pub tableTop : Curve → ℕ
+tableTop XBar = 10629096000000
+tableTop YBar = 10000000000000
+tableTop ZBar = 17829682000000
+tableTop XBar10 = 11343000000000
+tableTop YBar10 = 10000000000000
+tableTop ZBar10 = 20273000000000
+tableTop VPrime = 10000000000000
+
+abbrev pub powersSum : Illuminant → ℕ
+powersSum A = 6007637200
+powersSum D65 = 3918769960
+
+abbrev pub powersTop : Illuminant → ℕ
+powersTop A = 26160200
+powersTop D65 = 11781200
+
+-- the halves of a table's entries, each added up, are so small that a row's sums fit 64 bits
+pub record Halves (weights : List ℕ) : Type 0 where
+  pub high : total 471 (λ k. getD weights k 0 / 2 ^ 32) ≤ 1000000000000
+  pub low : total 471 (λ k. getD weights k 0 % 2 ^ 32) ≤ 1000000000000

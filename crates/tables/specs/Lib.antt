@@ -1,0 +1,5 @@
+-- Definitions of the crate `tables`.
+pub mod Tables
+pub mod Curves
+pub mod Columns
+pub mod Promises

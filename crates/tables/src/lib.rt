@@ -1,0 +1,98 @@
+// The CIE tables from 360 to 830 nm: which there are, and the whole of each. A table is built anew where it is asked for;
+// each has a function of its own, since one match over the numbers would look up every entry by the curve.
+mod numbers;
+pub mod promises;
+
+use crate::numbers::ILLUMINANT_A;
+use crate::numbers::ILLUMINANT_D65;
+use crate::numbers::V_PRIME;
+use crate::numbers::X_BAR;
+use crate::numbers::X_BAR_10;
+use crate::numbers::Y_BAR;
+use crate::numbers::Y_BAR_10;
+use crate::numbers::Z_BAR;
+use crate::numbers::Z_BAR_10;
+ghost use mathlib.Core.Path.{_≡_};
+ghost use Rattle.tables.specs.Tables.{xBar, yBar, zBar, xBar10, yBar10, zBar10, vPrime, illuminantA, illuminantD65};
+ghost use Rattle.tables.specs.Curves.{powers};
+
+// What light is weighed by: V is ȳ, and V10 is ȳ10.
+pub enum Curve {
+    XBar,
+    YBar,
+    ZBar,
+    XBar10,
+    YBar10,
+    ZBar10,
+    VPrime,
+}
+
+// What a panel is seen under.
+pub enum Illuminant {
+    A,
+    D65,
+}
+
+// The whole table of an illuminant.
+pub fn powers_of(illuminant: Illuminant) -> [u64; 471]
+    ensures { λ r. ⌜ r ≡ powers illuminant ⌝ }
+{
+    match illuminant {
+        Illuminant::A => illuminant_a(),
+        Illuminant::D65 => illuminant_d65(),
+    }
+}
+
+pub fn x_bar() -> [u64; 471]
+    ensures { λ r. ⌜ r ≡ xBar ⌝ }
+{
+    X_BAR
+}
+
+pub fn y_bar() -> [u64; 471]
+    ensures { λ r. ⌜ r ≡ yBar ⌝ }
+{
+    Y_BAR
+}
+
+pub fn z_bar() -> [u64; 471]
+    ensures { λ r. ⌜ r ≡ zBar ⌝ }
+{
+    Z_BAR
+}
+
+pub fn x_bar_10() -> [u64; 471]
+    ensures { λ r. ⌜ r ≡ xBar10 ⌝ }
+{
+    X_BAR_10
+}
+
+pub fn y_bar_10() -> [u64; 471]
+    ensures { λ r. ⌜ r ≡ yBar10 ⌝ }
+{
+    Y_BAR_10
+}
+
+pub fn z_bar_10() -> [u64; 471]
+    ensures { λ r. ⌜ r ≡ zBar10 ⌝ }
+{
+    Z_BAR_10
+}
+
+pub fn v_prime() -> [u64; 471]
+    ensures { λ r. ⌜ r ≡ vPrime ⌝ }
+{
+    V_PRIME
+}
+
+fn illuminant_a() -> [u64; 471]
+    ensures { λ r. ⌜ r ≡ illuminantA ⌝ }
+{
+    ILLUMINANT_A
+}
+
+fn illuminant_d65() -> [u64; 471]
+    ensures { λ r. ⌜ r ≡ illuminantD65 ⌝ }
+{
+    ILLUMINANT_D65
+}
