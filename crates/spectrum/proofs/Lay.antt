@@ -12,7 +12,8 @@ use lib.Seq.{ext-getD, getD-set-same, getD-set-other}
 use lib.Dec.{leb, ltb}
 use Rattle.grid.specs.Check.{lastOf}
 use Rattle.grid.proofs.Accepted.{OnGrid}
-use Rattle.spectrum.specs.Line.{lineAt, endRule, T, listed, rowOf, Part, Unmeasured}
+use Rattle.spectrum.specs.Line.{lineAt, T, listed, rowOf, Part, Unmeasured}
+use Rattle.spectrum.specs.Lay.{LaidTo}
 use Rattle.spectrum.proofs.Measured.{line-at, T-measured, T-below, T-above, T-from}
 
 pub length-listed : (n : ℕ) (f : ℕ → ℕ) → length (listed n f) ≡ n
@@ -25,12 +26,6 @@ unfolding listed
 getD-listed zero f k h = absurd (omega arith)
 getD-listed (suc n) f zero h = refl
 getD-listed (suc n) f (suc k) h = getD-listed n (λ j. f (suc j)) k (omega arith)
-
--- the places below k hold T, and the others the end rule
-pub record LaidTo (a s : ℕ) (xs row : List ℕ) (k : ℕ) : Type 0 where
-  pub long : length row ≡ 471
-  pub laid : (q : ℕ) → q < k → getD row q 0 ≡ T a s xs (360 + q)
-  pub rest : (q : ℕ) → k ≤ q → q < 471 → getD row q 0 ≡ endRule a s xs (360 + q)
 
 module _ (a s : ℕ) (xs : List ℕ) where
   -- below the first wavelength there is the end rule
@@ -107,6 +102,7 @@ module _ (a s : ℕ) (xs : List ℕ) (on : OnGrid a s (length xs)) where
       let m : s * (length (drop j xs) - 1 + j) ≡ s * (length xs - 1) = ap (λ (n : ℕ). s * n) (simp length-drop (omega arith)) in
       let l : length (drop j xs) ≡ length xs - j = length-drop j xs in
       record {
+        is-step = on .is-step;
         step-low = on .step-low;
         step-high = on .step-high;
         near = omega arith;

@@ -1,11 +1,11 @@
 -- T: the spectrum times its step at any wavelength, and W: its weighted sum.
-use mathlib.Core.Bool.{Bool, cond, _&&_}
+use mathlib.Core.Bool.{Bool, true, cond, _&&_}
 use mathlib.Core.List.{List, [], _∷_}
 use mathlib.Core.Path.{_≡_}
 use Prim.Native.Nat.{ℕ, zero, suc, _+_, _*_, _-_, _/_, _%_, _≤_, _<_}
 use lib.ListN.{length, getD}
 use lib.Dec.{leb}
-use Rattle.grid.specs.Check.{lastOf}
+use Rattle.grid.specs.Check.{isStep, lastOf}
 use Rattle.mixing.specs.Sum.{weighted}
 
 -- d nanometres above sample i, with e = s · i + d and d less than s: (s - d) times that sample plus d times the next one
@@ -38,6 +38,7 @@ W v a s xs = weighted 471 v (λ k. T a s xs (360 + k))
 
 -- n samples from a on: the first is at, above or just below 360, and the last from 780 to 830
 pub record Part (a s n : ℕ) : Type 0 where
+  pub is-step : isStep s ≡ true
   pub step-low : 1 ≤ s
   pub step-high : s ≤ 10
   pub near : 360 < a + s

@@ -1,2 +1,3 @@
 // A sampled spectrum: T, the spectrum times its step, at the whole nanometres 360 to 830.
 pub mod line;
+mod walk;

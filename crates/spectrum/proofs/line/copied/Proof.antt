@@ -6,7 +6,8 @@ use borrow.Author.Needs.{needs}
 use native.Mathlib.Omega.{arith}
 use lib.ListN.{length, getD}
 use Rattle.spectrum.specs.Line.{T}
-use Rattle.spectrum.proofs.Lay.{LaidTo, lay-none, walk-at, lay-more, lay-all}
+use Rattle.spectrum.specs.Lay.{LaidTo}
+use Rattle.spectrum.proofs.Lay.{lay-none, walk-at, lay-more, lay-all}
 use Rattle.spectrum.proofs.line.copied.Statement.{statement}
 use Rattle.spectrum.proofs.line.copied.Tie as tie
 

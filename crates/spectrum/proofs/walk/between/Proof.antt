@@ -3,8 +3,8 @@ use Prim.Native.Nat.{_*_, _-_, _^_, _≤_}
 use native.Mathlib.Nat.{mul-le-mul}
 use native.Mathlib.Omega.{arith}
 use borrow.Author.Needs.{needs}
-use Rattle.spectrum.proofs.line.between.Statement.{statement}
-use Rattle.spectrum.proofs.line.between.Tie as tie
+use Rattle.spectrum.proofs.walk.between.Statement.{statement}
+use Rattle.spectrum.proofs.walk.between.Tie as tie
 
 small : (c : tie.Start) → ((c .args .step - c .args .d) * c .args .here ≤ 10 * 2 ^ 32) × (c .args .d * c .args .next ≤ 10 * 2 ^ 32)
 small c =

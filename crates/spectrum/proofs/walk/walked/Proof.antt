@@ -1,0 +1,167 @@
+-- The loop's invariant: up to sample i the row is laid.
+use mathlib.Core.Path.{_≡_, _∙_, ap}
+use Prim.Native.Nat.{ℕ, _+_, _*_, _-_, _≤_, _<_}
+use native.Mathlib.Nat.{mul-le-mul-left, mul-le-mul-right}
+use native.Mathlib.Omega.{arith}
+use lib.ListN.{length, getD}
+use Rattle.spectrum.specs.Line.{T}
+use Rattle.spectrum.specs.Lay.{LaidTo}
+use Rattle.spectrum.proofs.Lay.{lay-none, walk-at, lay-more, lay-all}
+use Rattle.spectrum.proofs.walk.walked.Statement.{statement}
+use Rattle.spectrum.proofs.walk.walked.Tie as tie
+
+abbrev Inv-loop : tie.InvT-loop
+Inv-loop first step part row₀ last place i₀ row i = (1 ≤ i) × (i ≤ last) × LaidTo first step part row (first + step * i - 360)
+
+abbrev μ-loop : tie.MeasureT-loop
+μ-loop first step part row₀ last place i₀ row i = last - i
+
+abbrev begin : tie.After-place-of Inv-loop μ-loop → tie.Start Inv-loop μ-loop
+begin c = c .before .before .before
+
+abbrev at-loop : tie.At-loop Inv-loop μ-loop → tie.Start Inv-loop μ-loop
+at-loop c = begin (c .before .before .before)
+
+-- a part has samples enough for a stretch, and so few that no place wraps
+enough : (s : tie.Start Inv-loop μ-loop) → 40 ≤ length (s .args .part .now) - 1
+enough s =
+    let p = s .pre in
+    let most : s .args .step * (length (s .args .part .now) - 1) ≤ 10 * (length (s .args .part .now) - 1) =
+    mul-le-mul-right (length (s .args .part .now) - 1) (p .step-high) in
+    omega arith
+
+few : (s : tie.Start Inv-loop μ-loop) → length (s .args .part .now) ≤ 831
+few s =
+    let p = s .pre in
+    let least : 1 * (length (s .args .part .now) - 1) ≤ s .args .step * (length (s .args .part .now) - 1) =
+    mul-le-mul-right (length (s .args .part .now) - 1) (p .step-low) in
+    omega arith
+
+unmeasured-requires : tie.Need-unmeasured-requires Inv-loop μ-loop
+unmeasured-requires c κs = tt
+
+sub-last : tie.Need-sub-last Inv-loop μ-loop
+sub-last c = omega arith
+
+place-of-requires : tie.Need-place-of-requires Inv-loop μ-loop
+place-of-requires c κs = tt
+
+cast-stretch : tie.Need-cast-stretch Inv-loop μ-loop
+cast-stretch c = omega arith
+
+add-stretch : tie.Need-add-stretch Inv-loop μ-loop
+add-stretch c = omega arith
+
+sub-stretch : tie.Need-sub-stretch Inv-loop μ-loop
+sub-stretch c = omega arith
+
+stretch-requires : tie.Need-stretch-requires Inv-loop μ-loop
+stretch-requires c κs =
+    let placed = c .before in
+    let s = begin placed in
+    let t = s .args in
+    let p = s .pre in
+    let many = enough s in
+    let from : t .first + t .step * 0 + (360 + placed .place-of .result - t .first) - 360 ≡ t .first - 360 = omega arith in
+    (p, omega arith, omega arith, omega arith, rw from (lay-none (t .first) (t .step) (t .part .now) (placed .before .unmeasured .result) (p .start-high) (placed .before .unmeasured .ensures)))
+
+loop-holds : tie.Need-loop-holds Inv-loop μ-loop
+loop-holds c = let many = enough (begin (c .before .before)) in (omega arith, omega arith, c .stretch .ensures)
+
+stretch-requires-2 : tie.Need-stretch-requires-2 Inv-loop μ-loop
+stretch-requires-2 c κs =
+    let l = c .before .before .loop in
+    let s = at-loop (c .before .before) in
+    let p = s .pre in
+    let above : s .args .step * 1 ≤ s .args .step * l .i = mul-le-mul-left (s .args .step) (l .inv .0) in
+    let from : s .args .first + s .args .step * l .i + 0 - 360 ≡ s .args .first + s .args .step * l .i - 360 = omega arith in
+    (p, omega arith, omega arith, omega arith, rw from (l .inv .2))
+
+add-i : tie.Need-add-i Inv-loop μ-loop
+add-i c = omega arith
+
+loop-less : tie.Need-loop-less Inv-loop μ-loop
+loop-less c = omega arith
+
+loop-again : tie.Need-loop-again Inv-loop μ-loop
+loop-again c = (omega arith, omega arith, c .stretch2 .ensures)
+
+cast-place-of : tie.Need-cast-place-of Inv-loop μ-loop
+cast-place-of c = omega (arith, few (at-loop (c .before)))
+
+mul-place-of : tie.Need-mul-place-of Inv-loop μ-loop
+mul-place-of c = omega arith
+
+add-place-of : tie.Need-add-place-of Inv-loop μ-loop
+add-place-of c = omega arith
+
+place-of-requires-2 : tie.Need-place-of-requires-2 Inv-loop μ-loop
+place-of-requires-2 c κs = tt
+
+mul-wide : tie.Need-mul-wide Inv-loop μ-loop
+mul-wide c = omega arith
+
+shared-slice-read-wide : tie.Need-shared-slice-read-wide Inv-loop μ-loop
+shared-slice-read-wide c = omega arith
+
+wide-requires : tie.Need-wide-requires Inv-loop μ-loop
+wide-requires c κs = tt
+
+between-requires : tie.Need-between-requires Inv-loop μ-loop
+between-requires c κs = omega arith
+
+mul-row : tie.Need-mul-row Inv-loop μ-loop
+mul-row c = omega arith
+
+array-write-row : tie.Need-array-write-row Inv-loop μ-loop
+array-write-row c = omega arith
+
+returns : tie.Need-returns Inv-loop μ-loop
+returns c =
+    let wide = c .before in
+    let end = wide .before .before in
+    let l = end .before .before .loop in
+    let t = at-loop (end .before .before) .args in
+    let xs = t .part .now in
+    let last = length xs - 1 in
+    let k = end .place-of2 .result in
+    let p = at-loop (end .before .before) .pre in
+    let whole : l .i ≡ last = omega arith in
+    let here : c .between .result ≡ T (t .first) (t .step) xs (360 + k) =
+    c .between .ensures
+    ∙ ap (λ (x : ℕ). (t .step - 0) * x + 0 * 0) (wide .wide .ensures .0)
+    ∙ (let none : (t .step - 0) * getD xs last 0 + 0 * 0 ≡ (t .step - 0) * getD xs last 0 + 0 * getD xs (last + 1) 0 = omega arith in none)
+    ∙ walk-at (t .first) (t .step) xs last 0 k (omega arith) (omega arith) (omega arith) in
+    let laid : LaidTo (t .first) (t .step) xs (l .row) k =
+    (let e : k ≡ t .first + t .step * l .i - 360 = rw whole (omega arith) in rw e (l .inv .2)) in
+    lay-all (t .first) (t .step) xs _ (k + 1) (lay-more (t .first) (t .step) xs (l .row) k (c .between .result) laid (omega arith) here) (omega arith)
+
+pub walked-spec : {M : Type 1} → statement M
+walked-spec =
+    tie.close
+    (tie.spec
+    Inv-loop
+    μ-loop
+    unmeasured-requires
+    sub-last
+    place-of-requires
+    cast-stretch
+    add-stretch
+    sub-stretch
+    stretch-requires
+    loop-holds
+    stretch-requires-2
+    add-i
+    loop-less
+    loop-again
+    cast-place-of
+    mul-place-of
+    add-place-of
+    place-of-requires-2
+    mul-wide
+    shared-slice-read-wide
+    wide-requires
+    between-requires
+    mul-row
+    array-write-row
+    returns)

@@ -1,0 +1,52 @@
+// The line at a step above 1, walked from sample to sample with no division.
+use crate::line::place_of;
+use crate::line::unmeasured;
+ghost use mathlib.Core.Path.{_≡_};
+ghost use Prim.Native.Nat.{_+_, _*_, _-_, _^_, _<_, _≤_};
+ghost use lib.ListN.{length};
+ghost use Rattle.spectrum.specs.Line.{rowOf, Part};
+ghost use Rattle.spectrum.specs.Lay.{LaidTo};
+
+// The first stretch begins at 360 nm, which may be above the first sample; the others begin at a sample.
+pub fn walked(first: u32, step: u32, part: &[u32]) -> [u64; 471]
+    requires { ⌜ Part first step (length (now part)) ⌝ }
+    ensures { λ r. ⌜ r ≡ rowOf first step (now (part .entry)) ⌝ }
+{
+    let mut row = unmeasured();
+    let last = part.len() - 1;
+    let place = place_of(first);
+    stretch(first, step, part, 0, 360 + place as u32 - first, &mut row);
+    for i in 1..last {
+        stretch(first, step, part, i, 0, &mut row);
+    }
+    let end = place_of(first + step * last as u32);
+    row[end] = between(step, 0, wide(part[last]), 0);
+    row
+}
+
+// The line from so many nanometres above a sample up to the next one.
+fn stretch(first: u32, step: u32, part: &[u32], i: usize, from: u32, row: &mut [u64; 471])
+    requires { ⌜ Part first step (length (now part)) × (i + 1 < length (now part)) × (from < step) × (360 ≤ first + step * i + from) × LaidTo first step (now part) (now row) (first + step * i + from - 360) ⌝ }
+    ensures { λ _. ⌜ LaidTo first step (now (part .entry)) (now (row .exit)) (first + step * (i + 1) - 360) ⌝ }
+{
+    let here = wide(part[i]);
+    let next = wide(part[i + 1]);
+    let sample = first + step * i as u32;
+    for d in from..step {
+        row[(sample + d - 360) as usize] = between(step, d, here, next);
+    }
+}
+
+// d nanometres above a sample, towards the next one.
+fn between(step: u32, d: u32, here: u64, next: u64) -> u64
+    requires { ⌜ (d ≤ step) × (step ≤ 10) × (here < 2 ^ 32) × (next < 2 ^ 32) ⌝ }
+    ensures { λ r. ⌜ r ≡ (step - d) * here + d * next ⌝ }
+{
+    (step - d) as u64 * here + d as u64 * next
+}
+
+pub fn wide(x: u32) -> u64
+    ensures { λ r. ⌜ (r ≡ x) × (r < 2 ^ 32) ⌝ }
+{
+    x as u64
+}
