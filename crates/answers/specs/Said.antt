@@ -1,7 +1,8 @@
 -- The paper's number, place and values for each case of each answer.
-use mathlib.Core.List.{[], _∷_}
+use mathlib.Core.List.{List, [], _∷_}
+use Prim.Native.Nat.{ℕ}
 use Rattle.grid.specs.Check.{refusal}
-use Rattle.grid.specs.Said.{Said, given, refusedWith}
+use Rattle.grid.specs.Said.{Said, value, given, refusedWith}
 use Rattle.answers.specs.declared.Reading.{Reading}
 use Rattle.answers.specs.declared.XyzAnswer.{XyzAnswer}
 use Rattle.answers.specs.declared.XyAnswer.{XyAnswer}
@@ -19,6 +20,10 @@ saidXyz (XyzAnswer.Refused r) = refusedWith r
 abbrev pub saidXy : XyAnswer → Said
 saidXy (XyAnswer.Value v) = given (v .x ∷ v .y ∷ []) []
 saidXy (XyAnswer.Refused r) = refusedWith r
+
+-- x and y beside other figures: their number, and x and y, 0 where they are refused
+abbrev pub colourValues : XyAnswer → List ℕ
+colourValues xy = saidXy xy .number ∷ value (saidXy xy) 0 ∷ value (saidXy xy) 1 ∷ []
 
 -- dark is refused 9, as x and y are, and has no values
 abbrev pub saidOnChart : OnChart → Said

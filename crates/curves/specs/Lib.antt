@@ -1,3 +1,3 @@
 -- Definitions of the crate `curves`.
 pub mod Colour
-pub mod Split
+pub mod Lit

@@ -15,7 +15,8 @@ use Rattle.spectrum.specs.Line.{lineAt, T, listed, rowOf, W}
 use Rattle.spectrum.proofs.Light.{row-weighed}
 use Rattle.grid.specs.Said.{value}
 use Rattle.curves.specs.Colour.{colourOf}
-use Rattle.panel.specs.Panel.{isIlluminant, illuminantOf, litBy, surfaceCheck, panelCheck, whiteSum, ySum}
+use Rattle.panel.specs.Panel.{isIlluminant, illuminantOf, surfaceCheck, panelCheck, whiteSum, ySum}
+use Rattle.curves.specs.Lit.{litBy}
 use Rattle.panel.specs.Promises.{xyz, fullWhite}
 use Rattle.panel.proofs.Given.{divisor-some, values, given}
 

@@ -14,17 +14,17 @@ use Rattle.mixing.proofs.Mixture.{linear-times}
 use Rattle.tables.specs.declared.Curve.{Curve}
 use Rattle.spectrum.specs.Line.{W}
 use Rattle.spectrum.proofs.Measured.{W-linear}
-use Rattle.spectrum.proofs.Light.{W-bound}
 use Rattle.tables.proofs.Sums.{lit-sum}
 use Rattle.answers.specs.declared.XyzAnswer.{XyzAnswer}
 use Rattle.grid.specs.Said.{value}
 use Rattle.curves.specs.Colour.{colourOf}
 use Rattle.answers.proofs.Values.{xyz-given}
 use Rattle.answers.proofs.Mixed.{xyz-order}
-use Rattle.panel.specs.Panel.{illuminantOf, panelCheck, litBy, whiteSum, xSum, ySum, zSum, panelXyzOf}
+use Rattle.panel.specs.Panel.{illuminantOf, panelCheck, whiteSum, xSum, ySum, zSum, panelXyzOf}
+use Rattle.curves.specs.Lit.{litBy}
 use Rattle.panel.specs.Promises.{xyz}
 use Rattle.panel.proofs.Surface.{surface-fine, on-grid}
-use Rattle.panel.proofs.Sized.{white-some, surface-sized}
+use Rattle.panel.proofs.Sized.{white-some, panel-bound}
 
 module _ (o i a s : ℕ) (rs : List ℕ) (fine : panelCheck o i a s rs ≡ Fine) where
   pub divisor-some : 0 < s * whiteSum o i
@@ -37,8 +37,7 @@ module _ (o i a s : ℕ) (rs : List ℕ) (fine : panelCheck o i a s rs ≡ Fine)
   fits : (c : Curve) → nearest (10 * W (litBy (illuminantOf i) c) a s rs) (s * whiteSum o i) ≤ 4294967295
   fits c =
       let v = litBy (illuminantOf i) c in
-      let sized = surface-sized a s rs (surface-fine o i a s rs fine) in
-      let x : W v a s rs ≤ s * 10000 * total 471 v = W-bound v a s 10000 rs (sized .low) (sized .within) in
+      let x : W v a s rs ≤ s * 10000 * total 471 v = panel-bound a s rs (surface-fine o i a s rs fine) v in
       let y : s * 10000 * total 471 v ≤ s * 10000 * 52320400000000000000000 = mul-le-mul-left (s * 10000) (lit-sum (illuminantOf i) c) in
       let z : s * 10500000000000000000000 ≤ s * whiteSum o i = mul-le-mul-left s (white-some o i) in
       let n = nearest-bound 500000 (10 * W v a s rs) (s * whiteSum o i) (omega arith) in

@@ -1,4 +1,5 @@
 -- Laws of panels.
+pub mod Filled
 pub mod Computed
 pub mod Surface
 pub mod Sized

@@ -8,10 +8,9 @@ use Rattle.grid.specs.declared.Check.{Check}
 use Rattle.grid.specs.declared.Check.the-variants.{Refused}
 use Rattle.grid.specs.Check.{unless, require, isObserver, gridCheck, reflectancesCheck}
 use Rattle.mixing.specs.Sum.{total}
-use Rattle.tables.specs.declared.Curve.{Curve}
 use Rattle.tables.specs.declared.Illuminant.{Illuminant}
 use Rattle.tables.specs.declared.Illuminant.the-variants.{A, D65}
-use Rattle.tables.specs.Curves.{weightOf, powerOf}
+use Rattle.curves.specs.Lit.{litBy}
 use Rattle.spectrum.specs.Line.{W}
 use Rattle.answers.specs.declared.XyzAnswer.{XyzAnswer}
 use Rattle.answers.specs.declared.XyAnswer.{XyAnswer}
@@ -37,10 +36,6 @@ settingCheck o i a s n = require (isObserver o) 6 (require (isIlluminant i) 7 (g
 -- OBSERVER, ILLUMINANT, and then the reflectances' own refusals
 unfoldable pub panelCheck : ℕ → ℕ → ℕ → ℕ → List ℕ → Check
 panelCheck o i a s rs = require (isObserver o) 6 (require (isIlluminant i) 7 (surfaceCheck a s rs))
-
--- illuminant times curve at each nanometre
-abbrev pub litBy : Illuminant → Curve → ℕ → ℕ
-litBy illuminant c k = powerOf illuminant k * weightOf c k
 
 -- multiply the chosen illuminant, T and x̄ at each nanometre from 360 to 830, and add up: the panel's X sum
 abbrev pub xSum : ℕ → ℕ → ℕ → ℕ → List ℕ → ℕ

@@ -1,4 +1,5 @@
 // Panel colour: X, Y, Z, the coordinates x and y, and the chart's point of a panel under an illuminant.
+pub mod figures;
 mod lit;
 pub mod promises;
 mod reflectances;

@@ -1,8 +1,7 @@
-// The three sums of an accepted panel: illuminant times T, weighed by the observer's curves. The summing is lent the part
-// of the row that begins at the reflectance at or just below 360 nm.
+// The three sums of an accepted panel. The summing is lent the part of the row that begins at the reflectance at or just
+// below 360 nm.
 use crate::reflectances::widen;
-use curves::lit::lit_by;
-use curves::lit::split_sums;
+use curves::lit::lit_sums;
 use curves::weigh::Sums;
 use spectrum::line::row_from;
 use tables::Illuminant;
@@ -12,7 +11,7 @@ ghost use Rattle.panel.specs.Panel.{illuminantOf};
 ghost use Rattle.panel.specs.Sums.{PanelSums};
 
 // The part is widened to samples, so that it shares their line.
-pub fn lit_sums(observer: u32, illuminant: u32, first: u32, step: u32, part: &[u16]) -> Sums
+pub fn part_sums(observer: u32, illuminant: u32, first: u32, step: u32, part: &[u16]) -> Sums
     requires { ⌜ Begun 10000 first step (now part) ⌝ }
     ensures { λ r. ⌜ PanelSums observer illuminant first step (now (part .entry)) r ⌝ }
 {
@@ -20,10 +19,7 @@ pub fn lit_sums(observer: u32, illuminant: u32, first: u32, step: u32, part: &[u
     let mut wide = [0u32; 531];
     widen(part, &mut wide);
     let row = row_from(first, step, &wide[..count]);
-    let mut high = [0u64; 471];
-    let mut low = [0u64; 471];
-    lit_by(illuminant_of(illuminant), &row, &mut high, &mut low);
-    split_sums(observer, &high, &low)
+    lit_sums(observer, illuminant_of(illuminant), &row)
 }
 
 // 1 is A, 2 is D65.

@@ -1,5 +1,5 @@
 // The three sums of a panel, or its first refusal.
-use crate::lit::lit_sums;
+use crate::lit::part_sums;
 use crate::reflectances::check_reflectances;
 use curves::weigh::Sums;
 use grid::Check;
@@ -34,7 +34,7 @@ pub fn panel_sums(
                 Check::Fine => {
                     let begin = begin_at_360(start, step);
                     let j = begin.place;
-                    SumsAnswer::Given(lit_sums(
+                    SumsAnswer::Given(part_sums(
                         observer,
                         illuminant,
                         begin.wavelength,

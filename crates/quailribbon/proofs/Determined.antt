@@ -11,6 +11,7 @@ use Rattle.readings.proofs.colour.xyz.Reads as xyz
 use Rattle.readings.proofs.colour.xy.Reads as xy
 use Rattle.readings.proofs.colour.chart.Reads as chart
 use Rattle.readings.proofs.report.figures.Reads as figures
+use Rattle.panel.proofs.figures.panel_figures.Reads as panel-figures
 use Rattle.panel.proofs.panel_xyz.Reads as panel-xyz
 use Rattle.panel.proofs.panel_xy.Reads as panel-xy
 use Rattle.panel.proofs.panel_chart.Reads as panel-chart
@@ -28,6 +29,7 @@ use Rattle.quailribbon.proofs.lights.qr_figures.Reads as qr-figures
 use Rattle.quailribbon.proofs.panels.qr_panel_xyz.Reads as qr-panel-xyz
 use Rattle.quailribbon.proofs.panels.qr_panel_xy.Reads as qr-panel-xy
 use Rattle.quailribbon.proofs.panels.qr_panel_chart.Reads as qr-panel-chart
+use Rattle.quailribbon.proofs.panels.qr_panel_figures.Reads as qr-panel-figures
 use Rattle.quailribbon.proofs.records.qr_read_record.Reads as qr-read-record
 use Rattle.quailribbon.proofs.records.qr_write_record.Reads as qr-write-record
 use Rattle.quailribbon.proofs.records.qr_report.Reads as qr-report
@@ -83,6 +85,9 @@ one-panel-xy k a r q e f p s = same p s
 
 one-panel-chart : OneResult panel-chart.Post
 one-panel-chart k a r q e f p s = same p s
+
+one-panel-figures : OneResult panel-figures.Post
+one-panel-figures k a r q e f p s = same p s
 
 -- record: the result, and the lent row or bytes
 
@@ -140,6 +145,9 @@ one-qr-panel-xy k a r q e f p s = same p s
 
 one-qr-panel-chart : OneResult qr-panel-chart.Post
 one-qr-panel-chart k a r q e f p s = same p s
+
+one-qr-panel-figures : OneResult qr-panel-figures.Post
+one-qr-panel-figures k a r q e f p s = same p s
 
 one-qr-read-record : OneResult qr-read-record.Post
 one-qr-read-record k a r q e f p s = same (p .0) (s .0)

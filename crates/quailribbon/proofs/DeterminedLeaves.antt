@@ -1,16 +1,13 @@
 -- The open functions between crates are determined too: two results that a contract allows for the same arguments are
 -- equal. `Determined` shows it of the functions that face callers.
-use mathlib.Core.Path.{_≡_, refl}
-use mathlib.Core.List.{List}
-use Prim.Native.Nat.{ℕ, _^_, _<_}
+use mathlib.Core.Path.{_≡_}
+use Prim.Native.Nat.{_^_, _<_}
 use native.Mathlib.Omega.{arith}
-use lib.ListN.{length, getD}
-use lib.Seq.{ext-getD}
 use Rattle.exact.specs.declared.digits.Short.{Short}
 use Rattle.exact.specs.declared.digits.Long.{Long}
 use Rattle.exact.specs.Value.{short, long}
 use Rattle.curves.specs.declared.weigh.Sums.{Sums}
-use Rattle.quailribbon.proofs.Determined.{OneResult, OneExit, same}
+use Rattle.quailribbon.proofs.Determined.{OneResult, same}
 use Rattle.exact.proofs.digits.joined.Reads as joined
 use Rattle.exact.proofs.digits.times_plus.Reads as times-plus
 use Rattle.exact.proofs.digits.narrow.Reads as narrow
@@ -36,8 +33,7 @@ use Rattle.tables.proofs.v_prime.Reads as v-prime
 use Rattle.curves.proofs.weigh.colour_of.Reads as colour-of
 use Rattle.curves.proofs.weigh.weigh.Reads as weigh
 use Rattle.curves.proofs.weigh.row_sums.Reads as row-sums
-use Rattle.curves.proofs.lit.lit_by.Reads as lit-by
-use Rattle.curves.proofs.lit.split_sums.Reads as split-sums
+use Rattle.curves.proofs.lit.lit_sums.Reads as lit-sums
 use Rattle.spectrum.proofs.line.begin_at_360.Reads as begin-at-360
 use Rattle.spectrum.proofs.line.row_from.Reads as row-from
 use Rattle.answers.proofs.work.reading_from.Reads as reading-from
@@ -84,15 +80,6 @@ same-sums {r} {q} d g ex ey ez =
     let y : r .y ≡ q .y = same-short (d .y) (g .y) ey in
     let z : r .z ≡ q .z = same-short (d .z) (g .z) ez in
     λ i. record { x = x i; y = y i; z = z i }
-
--- Likewise the contract of a filled row gives each of its 471 places, and the row's type that there are no others.
-abbrev Kept : {K A R E : Type 0} → (E → List ℕ) → (K → A → R → E → Type 0) → K → A → R → E → Type 0
-Kept lent Allows k a r e = (length (lent e) ≡ 471) × Allows k a r e
-
-same-row : {xs ys : List ℕ} (place : ℕ → ℕ) → length xs ≡ 471 → length ys ≡ 471
-    → ((k : ℕ) → k < 471 → getD xs k 0 ≡ place k) → ((k : ℕ) → k < 471 → getD ys k 0 ≡ place k) → xs ≡ ys
-same-row {xs} {ys} place m n p q =
-    ext-getD 0 xs ys (same m n) (λ k b. let h : k < 471 = omega arith in same (p k h) (q k h))
 
 -- exact
 
@@ -178,17 +165,8 @@ one-row-sums : OneResult (Fitting SumsFit row-sums.Post)
 one-row-sums k a r q e f p s =
     same-sums (p .0) (s .0) (same (p .1 .x) (s .1 .x)) (same (p .1 .y) (s .1 .y)) (same (p .1 .z) (s .1 .z))
 
-one-lit-by : OneResult lit-by.Post
-one-lit-by k a r q e f p s = refl
-
-left-lit-by-high : OneExit (λ e. e .1 .1 .0 .now) (Kept (λ e. e .1 .1 .0 .now) lit-by.Post)
-left-lit-by-high k a r q e f p s = same-row _ (p .0) (s .0) (p .1 .upper) (s .1 .upper)
-
-left-lit-by-low : OneExit (λ e. e .1 .1 .1 .0 .now) (Kept (λ e. e .1 .1 .1 .0 .now) lit-by.Post)
-left-lit-by-low k a r q e f p s = same-row _ (p .0) (s .0) (p .1 .lower) (s .1 .lower)
-
-one-split-sums : OneResult (Fitting SumsFit split-sums.Post)
-one-split-sums k a r q e f p s =
+one-lit-sums : OneResult (Fitting SumsFit lit-sums.Post)
+one-lit-sums k a r q e f p s =
     same-sums (p .0) (s .0) (same (p .1 .x) (s .1 .x)) (same (p .1 .y) (s .1 .y)) (same (p .1 .z) (s .1 .z))
 
 -- spectrum

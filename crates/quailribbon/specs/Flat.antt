@@ -9,6 +9,7 @@ use Rattle.quailribbon.specs.declared.flat.QrXyz.{QrXyz}
 use Rattle.quailribbon.specs.declared.flat.QrXy.{QrXy}
 use Rattle.quailribbon.specs.declared.flat.QrChart.{QrChart}
 use Rattle.quailribbon.specs.declared.flat.QrFigures.{QrFigures}
+use Rattle.quailribbon.specs.declared.flat.QrPanelFigures.{QrPanelFigures}
 
 abbrev pub flatReading : Said → QrReading
 flatReading said = record { number = said .number; place = said .place; value = value said 0 }
@@ -44,4 +45,17 @@ flatFigures said =
       «xy_number» = value said 5;
       x = value said 6;
       y = value said 7;
+    }
+
+abbrev pub flatPanelFigures : Said → QrPanelFigures
+flatPanelFigures said =
+    record {
+      number = said .number;
+      place = said .place;
+      «xyz_x» = value said 0;
+      «xyz_y» = value said 1;
+      «xyz_z» = value said 2;
+      «xy_number» = value said 3;
+      x = value said 4;
+      y = value said 5;
     }

@@ -48,6 +48,18 @@ pub struct QrFigures {
 }
 
 #[repr(C)]
+pub struct QrPanelFigures {
+    pub number: u32,
+    pub place: u32,
+    pub xyz_x: u32,
+    pub xyz_y: u32,
+    pub xyz_z: u32,
+    pub xy_number: u32,
+    pub x: u32,
+    pub y: u32,
+}
+
+#[repr(C)]
 pub struct QrRecord {
     pub number: u32,
     pub place: u32,

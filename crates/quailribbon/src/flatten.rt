@@ -1,6 +1,7 @@
 // Each answer made flat.
 use crate::flat::QrChart;
 use crate::flat::QrFigures;
+use crate::flat::QrPanelFigures;
 use crate::flat::QrReading;
 use crate::flat::QrRecord;
 use crate::flat::QrWritten;
@@ -13,6 +14,7 @@ use answers::Reading;
 use answers::XyAnswer;
 use answers::XyzAnswer;
 use page::ReportWritten;
+use panel::figures::PanelFiguresAnswer;
 use readings::report::FiguresAnswer;
 use record::RecordRead;
 use record::RecordWritten;
@@ -21,7 +23,8 @@ ghost use Rattle.answers.specs.Said.{saidReading, saidXyz, saidXy, saidOnChart,
 ghost use Rattle.record.specs.Said.{saidRead, saidWritten};
 ghost use Rattle.page.specs.Said.{saidReported};
 ghost use Rattle.readings.specs.Figures.{saidFigures};
-ghost use Rattle.quailribbon.specs.Flat.{flatReading, flatXyz, flatXy, flatChart, flatFigures};
+ghost use Rattle.panel.specs.Figures.{saidPanelFigures};
+ghost use Rattle.quailribbon.specs.Flat.{flatReading, flatXyz, flatXy, flatChart, flatFigures, flatPanelFigures};
 ghost use Rattle.quailribbon.specs.Records.{flatRecord, flatWritten};
 
 pub fn flat_reading(answer: Reading) -> QrReading
@@ -147,6 +150,38 @@ pub fn flat_figures(answer: FiguresAnswer) -> QrFigures
             place: refusal.place,
             photopic: 0,
             scotopic: 0,
+            xyz_x: 0,
+            xyz_y: 0,
+            xyz_z: 0,
+            xy_number: 0,
+            x: 0,
+            y: 0,
+        },
+    }
+}
+
+pub fn flat_panel_figures(answer: PanelFiguresAnswer) -> QrPanelFigures
+    ensures { λ r. ⌜ r ≡ flatPanelFigures (saidPanelFigures answer) ⌝ }
+{
+    match answer {
+        PanelFiguresAnswer::Value(figures) => {
+            let xyz = figures.xyz;
+            let xy = figures.xy;
+            let colour = flat_xy(xy);
+            QrPanelFigures {
+                number: 0,
+                place: 0,
+                xyz_x: xyz.x,
+                xyz_y: xyz.y,
+                xyz_z: xyz.z,
+                xy_number: colour.number,
+                x: colour.x,
+                y: colour.y,
+            }
+        }
+        PanelFiguresAnswer::Refused(refusal) => QrPanelFigures {
+            number: refusal.number,
+            place: refusal.place,
             xyz_x: 0,
             xyz_y: 0,
             xyz_z: 0,

@@ -1,14 +1,17 @@
 // The colour of a panel, for C.
 use crate::flat::QrChart;
+use crate::flat::QrPanelFigures;
 use crate::flat::QrXy;
 use crate::flat::QrXyz;
 use crate::flatten::flat_chart;
+use crate::flatten::flat_panel_figures;
 use crate::flatten::flat_xy;
 use crate::flatten::flat_xyz;
 ghost use mathlib.Core.Path.{_≡_};
 ghost use Rattle.answers.specs.Said.{saidXyz, saidXy, saidChart};
 ghost use Rattle.panel.specs.Panel.{panelXyzOf, panelXyOf, panelChartOf};
-ghost use Rattle.quailribbon.specs.Flat.{flatXyz, flatXy, flatChart};
+ghost use Rattle.panel.specs.Figures.{panelFiguresOf, saidPanelFigures};
+ghost use Rattle.quailribbon.specs.Flat.{flatXyz, flatXy, flatChart, flatPanelFigures};
 
 #[no_mangle]
 pub extern "C" fn qr_panel_xyz(
@@ -47,4 +50,23 @@ pub extern "C" fn qr_panel_chart(
     ensures { λ r. ⌜ r ≡ flatChart (saidChart (panelChartOf observer illuminant start step (now (reflectances .entry)))) ⌝ }
 {
     flat_chart(panel::panel_chart(observer, illuminant, start, step, reflectances))
+}
+
+#[no_mangle]
+pub extern "C" fn qr_panel_figures(
+    observer: u32,
+    illuminant: u32,
+    start: u32,
+    step: u32,
+    reflectances: &[u16],
+) -> QrPanelFigures
+    ensures { λ r. ⌜ r ≡ flatPanelFigures (saidPanelFigures (panelFiguresOf observer illuminant start step (now (reflectances .entry)))) ⌝ }
+{
+    flat_panel_figures(panel::figures::panel_figures(
+        observer,
+        illuminant,
+        start,
+        step,
+        reflectances,
+    ))
 }

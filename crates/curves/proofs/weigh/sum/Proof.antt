@@ -1,10 +1,12 @@
 -- The loop's invariant: `high` and `low` are the sums, so far, of row times the upper and the lower half of the weights.
 use mathlib.Core.Path.{_≡_, refl, _∙_, subst}
-use Prim.Native.Nat.{_-_, _≤_}
+use mathlib.Core.List.{List}
+use Prim.Native.Nat.{ℕ, _+_, _*_, _-_, _%_, _≤_, _<_}
+use native.Mathlib.Nat.{mod-eq-of-lt}
 use native.Mathlib.Omega.{arith}
 use borrow.Author.Needs.{needs}
-use Rattle.mixing.specs.Sum.{total, weighted}
-use Rattle.mixing.specs.Sum.{entryOf}
+use lib.ListN.{getD}
+use Rattle.mixing.specs.Sum.{total, weighted, entryOf}
 use Rattle.curves.proofs.Rows.{upper, lower, next, next-fits, whole}
 use Rattle.curves.proofs.weigh.sum.Statement.{statement}
 use Rattle.curves.proofs.weigh.sum.Tie as tie
@@ -15,6 +17,29 @@ Inv-loop weights row high₀ low₀ k₀ high low k =
 
 abbrev μ-loop : tie.MeasureT-loop
 μ-loop weights row high₀ low₀ k₀ high low k = 471 - k
+
+module _ (c : tie.In-loop Inv-loop μ-loop) where
+  abbrev begin : tie.Start Inv-loop μ-loop
+  begin = c .before .before
+
+  abbrev row : List ℕ
+  row = begin .args .row .now
+
+  abbrev w : List ℕ
+  w = begin .args .weights .now
+
+  abbrev k : ℕ
+  k = c .before .loop .k
+
+  -- the remainder by 2^32 changes nothing
+  place : getD row k 0 % 4294967296 ≡ getD row k 0
+  place = let few : getD row k 0 < 4294967296 = (let h = begin .pre .1 k in omega arith) in mod-eq-of-lt few
+
+  high-fits : c .before .loop .high + upper w k * (getD row k 0 % 4294967296) ≤ 10000000000000000000
+  high-fits = next-fits (entryOf row) (begin .pre .1) (upper w) (begin .pre .0 .high) k _ _ (omega arith) (c .before .loop .inv .1) place
+
+  low-fits : c .before .loop .low + lower w k * (getD row k 0 % 4294967296) ≤ 10000000000000000000
+  low-fits = next-fits (entryOf row) (begin .pre .1) (lower w) (begin .pre .0 .low) k _ _ (omega arith) (c .before .loop .inv .2) place
 
 loop-holds : tie.Need-loop-holds Inv-loop μ-loop
 unfolding weighted total
@@ -33,18 +58,10 @@ element-copy-out-high : tie.Need-element-copy-out-high Inv-loop μ-loop
 element-copy-out-high c = search needs
 
 mul-high-2 : tie.Need-mul-high-2 Inv-loop μ-loop
-mul-high-2 c =
-    let s = c .before .before .before .before in
-    let l = c .before .before .before .loop in
-    let f = next-fits (s .args .row .now) (s .pre .1) (upper (s .args .weights .now)) (s .pre .0 .high) (l .k) (l .high) (omega arith) (l .inv .1) in
-    omega arith
+mul-high-2 c = omega (arith, high-fits (c .before .before))
 
 add-high : tie.Need-add-high Inv-loop μ-loop
-add-high c =
-    let s = c .before .before .before .before in
-    let l = c .before .before .before .loop in
-    let f = next-fits (s .args .row .now) (s .pre .1) (upper (s .args .weights .now)) (s .pre .0 .high) (l .k) (l .high) (omega arith) (l .inv .1) in
-    omega arith
+add-high c = omega (arith, high-fits (c .before .before))
 
 mul-low : tie.Need-mul-low Inv-loop μ-loop
 mul-low c = search needs
@@ -53,18 +70,10 @@ element-copy-out-low : tie.Need-element-copy-out-low Inv-loop μ-loop
 element-copy-out-low c = search needs
 
 mul-low-2 : tie.Need-mul-low-2 Inv-loop μ-loop
-mul-low-2 c =
-    let s = c .before .before .before .before .before in
-    let l = c .before .before .before .before .loop in
-    let f = next-fits (s .args .row .now) (s .pre .1) (lower (s .args .weights .now)) (s .pre .0 .low) (l .k) (l .low) (omega arith) (l .inv .2) in
-    omega arith
+mul-low-2 c = omega (arith, low-fits (c .before .before .before))
 
 add-low : tie.Need-add-low Inv-loop μ-loop
-add-low c =
-    let s = c .before .before .before .before .before in
-    let l = c .before .before .before .before .loop in
-    let f = next-fits (s .args .row .now) (s .pre .1) (lower (s .args .weights .now)) (s .pre .0 .low) (l .k) (l .low) (omega arith) (l .inv .2) in
-    omega arith
+add-low c = omega (arith, low-fits (c .before .before .before))
 
 add-k : tie.Need-add-k Inv-loop μ-loop
 add-k c = omega arith
@@ -74,10 +83,10 @@ loop-less c = omega arith
 
 loop-again : tie.Need-loop-again Inv-loop μ-loop
 loop-again c =
-    let s = c .before .before .before .before .before in
-    let l = c .before .before .before .before .loop in
-    let more = next (s .args .row .now) (s .pre .1) in
-    (omega arith, more (upper (s .args .weights .now)) (l .k) (l .high) (l .inv .1), more (lower (s .args .weights .now)) (l .k) (l .low) (l .inv .2))
+    let t = c .before .before .before in
+    let inv = t .before .loop .inv in
+    let more = next (entryOf (row t)) (begin t .pre .1) in
+    (omega arith, more (upper (w t)) (k t) _ _ (inv .1) (place t), more (lower (w t)) (k t) _ _ (inv .2) (place t))
 
 joined-requires : tie.Need-joined-requires Inv-loop μ-loop
 joined-requires c κs = tt
@@ -86,11 +95,13 @@ returns : tie.Need-returns Inv-loop μ-loop
 returns c =
     let s = c .before .before .before in
     let l = c .before .before .loop in
+    let line = entryOf (s .args .row .now) in
+    let weights = s .args .weights .now in
     let end : l .k ≡ 471 = omega arith in
     c .joined .ensures
-    ∙ whole (s .args .row .now) (s .pre .1) (s .args .weights .now) (s .pre .0) (l .high) (l .low)
-    (subst (λ k. l .high ≡ weighted k (upper (s .args .weights .now)) (entryOf (s .args .row .now))) end (l .inv .1))
-    (subst (λ k. l .low ≡ weighted k (lower (s .args .weights .now)) (entryOf (s .args .row .now))) end (l .inv .2))
+    ∙ whole line (s .pre .1) weights (s .pre .0) (l .high) (l .low)
+    (subst (λ q. l .high ≡ weighted q (upper weights) line) end (l .inv .1))
+    (subst (λ q. l .low ≡ weighted q (lower weights) line) end (l .inv .2))
 
 pub sum-spec : {M : Type 1} → statement M
 sum-spec =

@@ -61,20 +61,20 @@ enum-told-2 c = search needs
 begin-at-360-requires : tie.Need-begin-at-360-requires
 begin-at-360-requires c κs = let on = on-grid (setting c) in (on .step-low, on .start-high)
 
-mul-lit-sums : tie.Need-mul-lit-sums
-mul-lit-sums c = omega (arith, in-row c)
+mul-part-sums : tie.Need-mul-part-sums
+mul-part-sums c = omega (arith, in-row c)
 
-sub-lit-sums : tie.Need-sub-lit-sums
-sub-lit-sums c = in-row c
+sub-part-sums : tie.Need-sub-part-sums
+sub-part-sums c = in-row c
 
-part-lit-sums-start : tie.Need-part-lit-sums-start
-part-lit-sums-start c = in-row c
+part-part-sums-start : tie.Need-part-part-sums-start
+part-part-sums-start c = in-row c
 
-part-lit-sums-end : tie.Need-part-lit-sums-end
-part-lit-sums-end c = search needs
+part-part-sums-end : tie.Need-part-part-sums-end
+part-part-sums-end c = search needs
 
-lit-sums-requires : tie.Need-lit-sums-requires
-lit-sums-requires c κs =
+part-sums-requires : tie.Need-part-sums-requires
+part-sums-requires c κs =
     let begin = c .before in
     let told = setting (begin .before) in
     let rs = given told in
@@ -95,7 +95,7 @@ returns c =
     let t = start told .args in
     let rs = given told in (
       panel-checked (t .observer) (t .illuminant) (t .start) (t .step) rs ∙ rw (setting-fine told) (reflectances-fine (begin .before)),
-      panel-begun (t .start) (t .step) rs (on-grid told) (begin .begin-at-360 .result) (begin .begin-at-360 .ensures) (t .observer) (t .illuminant) (c .lit-sums .result) (c .lit-sums .ensures),
+      panel-begun (t .start) (t .step) rs (on-grid told) (begin .begin-at-360 .result) (begin .begin-at-360 .ensures) (t .observer) (t .illuminant) (c .part-sums .result) (c .part-sums .ensures),
     )
 
 returns-2 : tie.Need-returns-2
@@ -122,11 +122,11 @@ panel-sums-spec =
     check-reflectances-requires
     enum-told-2
     begin-at-360-requires
-    mul-lit-sums
-    sub-lit-sums
-    part-lit-sums-start
-    part-lit-sums-end
-    lit-sums-requires
+    mul-part-sums
+    sub-part-sums
+    part-part-sums-start
+    part-part-sums-end
+    part-sums-requires
     enum-known-limit
     enum-known-setting
     returns

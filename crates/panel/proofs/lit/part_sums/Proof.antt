@@ -1,4 +1,4 @@
--- The part is widened and its row laid, lit and weighed in two parts.
+-- The part is widened, its row laid, and the row summed under the illuminant.
 use mathlib.Core.Path.{_≡_, refl, sym, ap}
 use Prim.Native.Nat.{_*_, _-_, _≤_}
 use native.Mathlib.Nat.{mul-le-mul-right}
@@ -6,11 +6,10 @@ use native.Mathlib.Omega.{arith}
 use lib.ListN.{length}
 use Rattle.spectrum.specs.Line.{rowOf}
 use Rattle.spectrum.proofs.Light.{begun-small}
-use Rattle.panel.proofs.Sized.{begun-sized}
 use Rattle.panel.proofs.Weighed.{panel-sums}
 use borrow.Author.Needs.{needs}
-use Rattle.panel.proofs.lit.lit_sums.Statement.{statement}
-use Rattle.panel.proofs.lit.lit_sums.Tie as tie
+use Rattle.panel.proofs.lit.part_sums.Statement.{statement}
+use Rattle.panel.proofs.lit.part_sums.Tie as tie
 
 abbrev begin : tie.After-widen → tie.Start
 begin c = c .before .before .before
@@ -21,9 +20,6 @@ few s = let p = s .pre .part in let more : 1 * (length (s .args .part .now) - 1)
 -- the row laid is the part's
 laid : (c : tie.After-row-from) → c .row-from .result ≡ rowOf (begin (c .before .before) .args .first) (begin (c .before .before) .args .step) (begin (c .before .before) .args .part .now)
 laid c = rw (c .before .before .widen .ensures .first) at (c .row-from .ensures)
-
-abbrev row : tie.After-lit-by → tie.After-row-from
-row c = c .before .before .before .before .before
 
 widen-requires : tie.Need-widen-requires
 widen-requires c κs = (few (c .before .before), refl)
@@ -40,26 +36,22 @@ row-from-requires c κs = rw (c .before .widen .ensures .first) (begin (c .befor
 illuminant-of-requires : tie.Need-illuminant-of-requires
 illuminant-of-requires c κs = search needs
 
-lit-by-requires : tie.Need-lit-by-requires
-lit-by-requires c κs =
-    let laying = c .before .before .before .before in
-    let s = begin (laying .before .before) in
-    (refl, refl, rw (laid laying) (begun-small 10000 (s .args .first) (s .args .step) (s .args .part .now) (s .pre)))
-
-split-sums-requires : tie.Need-split-sums-requires
-split-sums-requires c κs = search needs
+lit-sums-requires : tie.Need-lit-sums-requires
+lit-sums-requires c κs =
+    let row = c .before .before in
+    let s = begin (row .before .before) in
+    rw (laid row) (begun-small 10000 (s .args .first) (s .args .step) (s .args .part .now) (s .pre))
 
 returns : tie.Need-returns
 returns c =
-    let lit = c .before .before .before in
-    let s = begin (row lit .before .before) in
-    let t = s .args in
-    let under = lit .before .before .before .before .illuminant-of .ensures in
-    panel-sums (t .illuminant) (t .first) (t .step) (t .part .now) (begun-sized (t .first) (t .step) (t .part .now) (s .pre)) _ _ (rw (under, laid (row lit)) at (lit .lit-by .ensures)) (t .observer) (c .split-sums .result)
-    (c .split-sums .ensures)
+    let under = c .before .before in
+    let row = under .before in
+    let t = begin (row .before .before) .args in
+    panel-sums (t .observer) (t .illuminant) (t .first) (t .step) (t .part .now) (c .lit-sums .result)
+    (rw (under .illuminant-of .ensures, laid row) at (c .lit-sums .ensures))
 
-pub lit-sums-spec : {M : Type 1} → statement M
-lit-sums-spec =
+pub part-sums-spec : {M : Type 1} → statement M
+part-sums-spec =
     tie.close
     (tie.spec
     widen-requires
@@ -67,6 +59,5 @@ lit-sums-spec =
     slice-aggregate-row-from
     row-from-requires
     illuminant-of-requires
-    lit-by-requires
-    split-sums-requires
+    lit-sums-requires
     returns)

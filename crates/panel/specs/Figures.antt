@@ -1,0 +1,22 @@
+-- A panel's X, Y, Z and x, y as one answer, and the paper's number, place and values of it.
+use mathlib.Core.List.{List, [], _∷_}
+use Prim.Native.Nat.{ℕ}
+use Rattle.answers.specs.declared.XyzAnswer.{XyzAnswer}
+use Rattle.answers.specs.declared.XyAnswer.{XyAnswer}
+use Rattle.grid.specs.Said.{Said, given, refusedWith}
+use Rattle.answers.specs.Said.{colourValues}
+use Rattle.panel.specs.declared.figures.PanelFiguresAnswer.{PanelFiguresAnswer}
+use Rattle.panel.specs.Panel.{panelXyzOf, panelXyOf}
+
+-- the refusal of X, Y, Z, or all figures: x and y may be dark beside them
+abbrev pub joinedFigures : XyzAnswer → XyAnswer → PanelFiguresAnswer
+joinedFigures (XyzAnswer.Refused r) xy = PanelFiguresAnswer.Refused r
+joinedFigures (XyzAnswer.Value v) xy = PanelFiguresAnswer.Value (record { xyz = v; xy = xy })
+
+abbrev pub panelFiguresOf : ℕ → ℕ → ℕ → ℕ → List ℕ → PanelFiguresAnswer
+panelFiguresOf o i a s rs = joinedFigures (panelXyzOf o i a s rs) (panelXyOf o i a s rs)
+
+-- X, Y, Z, the number of x and y, x, y
+abbrev pub saidPanelFigures : PanelFiguresAnswer → Said
+saidPanelFigures (PanelFiguresAnswer.Value f) = given (f .xyz .x ∷ f .xyz .y ∷ f .xyz .z ∷ colourValues (f .xy)) []
+saidPanelFigures (PanelFiguresAnswer.Refused r) = refusedWith r
