@@ -1,4 +1,4 @@
-"""Brings along the shared library that ../build-library makes, and leaves nothing behind in the source folder."""
+"""Brings along the shared library that make builds, and leaves nothing behind in the source folder."""
 
 from pathlib import Path
 from tempfile import TemporaryDirectory
@@ -24,7 +24,7 @@ class Binary(Distribution):
 
 
 if not LIBRARY.exists():
-    raise SystemExit(f"{LIBRARY} is not there yet: run {ROOT / 'build-library'}, which makes it, and try again")
+    raise SystemExit(f"{LIBRARY} is not there yet: run make in {ROOT}, which builds it, and try again")
 
 with TemporaryDirectory() as scratch:
     setup(

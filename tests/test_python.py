@@ -495,7 +495,7 @@ class Package(Case):
             shutil.copy(ROOT / "python" / "setup.py", setup)
             built = subprocess.run([sys.executable, setup, "build"], capture_output=True, text=True)
         self.assertEqual(built.returncode, 1)
-        self.assertRegex(built.stderr, "^.*/libquailribbon.so is not there yet: run .*/build-library, .*\n$")
+        self.assertRegex(built.stderr, "^.*/libquailribbon.so is not there yet: run make in .*, .*\n$")
 
 
 class Hints(Case):

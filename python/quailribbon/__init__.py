@@ -18,8 +18,8 @@ however large its numbers are; a negative start, step, observer or illuminant is
 no whole number or no such row: a float, a text, a dict, a set, an iterator, a buffer of floats or of two dimensions.
 The message says which argument it is, or which place of the row, counted from 0.
 
-The shared library libquailribbon.so is looked for beside this file, in the folder lib of an installation by ./install,
-and where the system's loader looks; the environment variable QUAILRIBBON_LIBRARY names another one.
+The shared library libquailribbon.so is looked for beside this file, in the folder lib of an installation by make
+install, and where the system's loader looks; the environment variable QUAILRIBBON_LIBRARY names another one.
 """
 
 from collections.abc import Sequence

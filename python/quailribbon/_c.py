@@ -11,7 +11,7 @@ LONGEST_REPORT = 99
 
 
 def _load():
-    """The library that QUAILRIBBON_LIBRARY names, else that beside this file, that of ./install, or the system's."""
+    """The library that QUAILRIBBON_LIBRARY names, else that beside this file, that of make install, or the system's."""
     here = Path(__file__).resolve().parent
     named = os.environ.get("QUAILRIBBON_LIBRARY")
     near = [here / "libquailribbon.so", here.parents[1] / "lib" / "libquailribbon.so"]
