@@ -15,7 +15,7 @@ const TRIES: usize = 1000;
 pub fn reading(random: &mut Random, fraction: &Fraction) -> Option<Vec<u32>> {
     let half = |add: u128| {
         let q = fraction.denominator / gcd(add, fraction.denominator);
-        small(q / 2).filter(|_| q.is_multiple_of(2))
+        small(q / 2).filter(|_| q % 2 == 0)
     };
     let halves = fraction.adds.iter().enumerate();
     let halves: Vec<(usize, u32)> = halves

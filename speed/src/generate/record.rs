@@ -203,7 +203,7 @@ struct Bits {
 impl Bits {
     fn push(&mut self, value: u32, width: u32) {
         for bit in (0..width).rev() {
-            if self.used.is_multiple_of(8) {
+            if self.used % 8 == 0 {
                 self.bytes.push(0);
             }
             self.bytes[self.used / 8] |= ((value >> bit & 1) as u8) << (7 - self.used % 8);

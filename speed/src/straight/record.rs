@@ -79,7 +79,7 @@ fn sample_at(record: &[u8], i: usize) -> u32 {
     let at = 3 + 5 * i / 2;
     let three = &record[at..at + 3];
     let bits = u32::from_be_bytes([0, three[0], three[1], three[2]]);
-    if i.is_multiple_of(2) {
+    if i % 2 == 0 {
         bits >> 4
     } else {
         bits & 0xF_FFFF
@@ -98,7 +98,7 @@ fn pack(start: u32, step: u32, samples: &[u32], record: &mut [u8]) -> Result<usi
     for (i, &sample) in samples.iter().enumerate() {
         let at = 3 + 5 * i / 2;
         let three = &mut record[at..at + 3];
-        if i.is_multiple_of(2) {
+        if i % 2 == 0 {
             three[0] = (sample >> 12) as u8;
             three[1] = (sample >> 4) as u8;
             three[2] = (sample << 4) as u8;
