@@ -7,7 +7,6 @@ ifeq ($(filter /%,$(PREFIX)),)
 $(error PREFIX is $(PREFIX): give it an absolute path)
 endif
 
-CC = cc
 library = target/staticlib/libquailribbon
 # With their folders, which are newer where a file was taken out of them.
 sources := $(shell find crates.txt crates/*/src crates/*/specs crates/*/proofs)
