@@ -76,11 +76,11 @@ qr_chart_answer qr_panel_chart(uint32_t observer, uint32_t illuminant, uint32_t 
 qr_figures_answer qr_figures(uint32_t start, uint32_t step, const uint32_t *samples, size_t count);
 
 /* A packed record: read into the lent row of `room` samples, written into the lent `room` bytes. */
-qr_record_answer qr_read_record(const uint8_t *record, size_t length, uint32_t *samples, size_t room);
-qr_written qr_write_record(uint32_t start, uint32_t step, const uint32_t *samples, size_t count, uint8_t *record, size_t room);
+qr_record_answer qr_read_record(const uint8_t *bytes, size_t length, uint32_t *samples, size_t room);
+qr_written qr_write_record(uint32_t start, uint32_t step, const uint32_t *samples, size_t count, uint8_t *bytes, size_t room);
 
 /* The report of a record as text. A refused record has a report too, as "refused 12": only ROOM is a refusal here. */
-qr_written qr_report(const uint8_t *record, size_t length, uint8_t *text, size_t room);
+qr_written qr_report(const uint8_t *bytes, size_t length, uint8_t *text, size_t room);
 
 #ifdef __cplusplus
 }

@@ -375,6 +375,7 @@ class Buffers(Case):
                 samples.append(0)
             return mock.Mock(number=0, value=count)
 
+        grow_meanwhile.reads = _arguments.SAMPLES
         with mock.patch.object(_c, "photopic", grow_meanwhile):
             self.assertEqual(quailribbon.photopic(380, 1, samples), 401)
         samples.append(0)  # and no longer

@@ -27,7 +27,7 @@ from ctypes import c_uint32, create_string_buffer
 from typing import NamedTuple, Protocol, SupportsIndex, Union
 
 from . import _c
-from ._arguments import BYTES, REFLECTANCES, SAMPLES, grid, row, setting, thousandths
+from ._arguments import grid, row, setting, thousandths
 from ._c import LONGEST_RECORD, LONGEST_REPORT, MOST_SAMPLES
 
 __all__ = [
@@ -142,9 +142,9 @@ class Record(NamedTuple):
     samples: list[int]
 
 
-def _ask(function, settings, kind, values, *room):
+def _ask(function, settings, values, *room):
     """The answer of C to the settings, the row of values and the room for what is written."""
-    view, address = row(kind, values)  # the view holds the row where it is until C has answered
+    view, address = row(function.reads, values)  # the view holds the row where it is until C has answered
     answer = function(*settings, address, len(view), *room)
     if answer.number:
         raise Refused(answer.number, answer.place)
@@ -152,16 +152,16 @@ def _ask(function, settings, kind, values, *room):
 
 
 def _light(function, start, step, samples):
-    return _ask(function, grid(start, step), SAMPLES, samples)
+    return _ask(function, grid(start, step), samples)
 
 
 def _seen_light(function, observer, start, step, samples):
-    return _ask(function, (setting(observer, "observer"), *grid(start, step)), SAMPLES, samples)
+    return _ask(function, (setting(observer, "observer"), *grid(start, step)), samples)
 
 
 def _panel(function, observer, illuminant, start, step, reflectances):
     settings = (setting(observer, "observer"), setting(illuminant, "illuminant"), *grid(start, step))
-    return _ask(function, settings, REFLECTANCES, reflectances)
+    return _ask(function, settings, reflectances)
 
 
 def photopic(start: SupportsIndex, step: SupportsIndex, samples: Row) -> int:
@@ -181,7 +181,7 @@ def photopic_10(start: SupportsIndex, step: SupportsIndex, samples: Row) -> int:
 
 def mesopic(k: SupportsIndex, start: SupportsIndex, step: SupportsIndex, samples: Row) -> int:
     """Mesopic illuminance in millilux, at k thousandths, 0 to 1000."""
-    return _ask(_c.mesopic, (thousandths(k), *grid(start, step)), SAMPLES, samples).value
+    return _ask(_c.mesopic, (thousandths(k), *grid(start, step)), samples).value
 
 
 def xyz(observer: SupportsIndex, start: SupportsIndex, step: SupportsIndex, samples: Row) -> Xyz:
@@ -236,19 +236,19 @@ def figures(start: SupportsIndex, step: SupportsIndex, samples: Row) -> Figures:
 def read_record(record: Row) -> Record:
     """The start, step and samples of a packed record."""
     samples = (c_uint32 * MOST_SAMPLES)()
-    answer = _ask(_c.read_record, (), BYTES, record, samples, MOST_SAMPLES)
+    answer = _ask(_c.read_record, (), record, samples, MOST_SAMPLES)
     return Record(answer.start, answer.step, samples[: answer.count])
 
 
 def write_record(start: SupportsIndex, step: SupportsIndex, samples: Row) -> bytes:
     """The packed record of a spectrum."""
     record = create_string_buffer(LONGEST_RECORD)
-    answer = _ask(_c.write_record, grid(start, step), SAMPLES, samples, record, LONGEST_RECORD)
+    answer = _ask(_c.write_record, grid(start, step), samples, record, LONGEST_RECORD)
     return record.raw[: answer.length]
 
 
 def report(record: Row) -> str:
     """The report of a packed record, as text. A refused record has a report too."""
     text = create_string_buffer(LONGEST_REPORT)
-    answer = _ask(_c.report, (), BYTES, record, text, LONGEST_REPORT)
+    answer = _ask(_c.report, (), record, text, LONGEST_REPORT)
     return text.raw[: answer.length].decode("ascii")

@@ -4,6 +4,9 @@ import ctypes
 import os
 from ctypes import c_double, c_size_t, c_uint32, c_void_p
 from pathlib import Path
+from typing import NamedTuple
+
+from ._arguments import BYTES, REFLECTANCES, SAMPLES, Kind
 
 MOST_SAMPLES = 531
 LONGEST_RECORD = 1331
@@ -35,31 +38,46 @@ _Record = _answer("_Record", "start", "step", "count")
 _Written = _answer("_Written", "length")
 _Figures = _answer("_Figures", "photopic", "scotopic", "X", "Y", "Z", "xy_number", "x", "y")
 
-_ROW = (c_void_p, c_size_t)
-_LIGHT = (c_uint32, c_uint32, *_ROW)
-_PANEL = (c_uint32, c_uint32, *_LIGHT)
+
+
+class Room(NamedTuple):
+    """A row that C writes."""
+
+    kind: Kind
+
+
+_GRID = {"start": c_uint32, "step": c_uint32}
+_LIGHT = {**_GRID, "samples": SAMPLES}
+_PANEL = {"observer": c_uint32, "illuminant": c_uint32, **_GRID, "reflectances": REFLECTANCES}
 
 _library = _load()
 
 
-def _function(name, answer, *arguments):
+def _function(name, answer, **parameters):
+    """A function by its parameters, each a number's type, the kind of the row that is read, or the room for another."""
     function = getattr(_library, name)
     function.restype = answer
-    function.argtypes = arguments
+    function.parameters = parameters
+    function.argtypes = [
+        word
+        for parameter in parameters.values()
+        for word in ((c_void_p, c_size_t) if isinstance(parameter, (Kind, Room)) else (parameter,))
+    ]
+    function.reads = next(kind for kind in parameters.values() if isinstance(kind, Kind))
     return function
 
 
-photopic = _function("qr_photopic", _Reading, *_LIGHT)
-scotopic = _function("qr_scotopic", _Reading, *_LIGHT)
-photopic_10 = _function("qr_photopic_10", _Reading, *_LIGHT)
-mesopic = _function("qr_mesopic", _Reading, c_uint32, *_LIGHT)
-xyz = _function("qr_xyz", _Xyz, c_uint32, *_LIGHT)
-xy = _function("qr_xy", _Xy, c_uint32, *_LIGHT)
-chart = _function("qr_chart", _Chart, c_uint32, *_LIGHT)
-panel_xyz = _function("qr_panel_xyz", _Xyz, *_PANEL)
-panel_xy = _function("qr_panel_xy", _Xy, *_PANEL)
-panel_chart = _function("qr_panel_chart", _Chart, *_PANEL)
-figures = _function("qr_figures", _Figures, *_LIGHT)
-read_record = _function("qr_read_record", _Record, *_ROW, *_ROW)
-write_record = _function("qr_write_record", _Written, *_LIGHT, *_ROW)
-report = _function("qr_report", _Written, *_ROW, *_ROW)
+photopic = _function("qr_photopic", _Reading, **_LIGHT)
+scotopic = _function("qr_scotopic", _Reading, **_LIGHT)
+photopic_10 = _function("qr_photopic_10", _Reading, **_LIGHT)
+mesopic = _function("qr_mesopic", _Reading, k=c_uint32, **_LIGHT)
+xyz = _function("qr_xyz", _Xyz, observer=c_uint32, **_LIGHT)
+xy = _function("qr_xy", _Xy, observer=c_uint32, **_LIGHT)
+chart = _function("qr_chart", _Chart, observer=c_uint32, **_LIGHT)
+panel_xyz = _function("qr_panel_xyz", _Xyz, **_PANEL)
+panel_xy = _function("qr_panel_xy", _Xy, **_PANEL)
+panel_chart = _function("qr_panel_chart", _Chart, **_PANEL)
+figures = _function("qr_figures", _Figures, **_LIGHT)
+read_record = _function("qr_read_record", _Record, bytes=BYTES, samples=Room(SAMPLES))
+write_record = _function("qr_write_record", _Written, **_LIGHT, bytes=Room(BYTES))
+report = _function("qr_report", _Written, bytes=BYTES, text=Room(BYTES))

@@ -69,7 +69,7 @@ mod c {
             count: usize,
         ) -> FiguresAnswer;
         pub fn qr_read_record(
-            record: *const u8,
+            bytes: *const u8,
             length: usize,
             samples: *mut u32,
             room: usize,
@@ -79,10 +79,10 @@ mod c {
             step: u32,
             samples: *const u32,
             count: usize,
-            record: *mut u8,
+            bytes: *mut u8,
             room: usize,
         ) -> Written;
-        pub fn qr_report(record: *const u8, length: usize, text: *mut u8, room: usize) -> Written;
+        pub fn qr_report(bytes: *const u8, length: usize, text: *mut u8, room: usize) -> Written;
     }
 }
 
