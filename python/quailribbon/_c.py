@@ -39,7 +39,6 @@ _Written = _answer("_Written", "length")
 _Figures = _answer("_Figures", "photopic", "scotopic", "X", "Y", "Z", "xy_number", "x", "y")
 
 
-
 class Room(NamedTuple):
     """A row that C writes."""
 

@@ -11,12 +11,14 @@ mod work;
 use std::env;
 use std::process::ExitCode;
 use std::time::Instant;
-use work::{Library, Task, Work, ITEMS, OURS, REPORT, STRAIGHT, TASKS};
+use work::{Library, Task, Work, FIGURES, ITEMS, OURS, REPORT, STRAIGHT, TASKS};
 
 /// Each time is the best of so many rounds.
 const ROUNDS: usize = 25;
 
 const NS_A_SECOND: f64 = 1e9;
+
+const STEPS: [u32; 4] = [1, 2, 5, 10];
 
 fn main() -> ExitCode {
     let arguments: Vec<String> = env::args().skip(1).collect();
@@ -24,6 +26,7 @@ fn main() -> ExitCode {
     match arguments[..] {
         [] => {
             print_speed();
+            print_steps();
             print_growth();
             return ExitCode::SUCCESS;
         }
@@ -98,6 +101,20 @@ fn print_speed() {
     println!("\nRecords that a core reads and reports in a second: {reports_a_second:.0}");
 }
 
+/// The figures at each step, over one range, beside the straightforward ones.
+fn print_steps() {
+    println!("\nSeven figures of a spectrum from 380 to 780 nm, by step; ns for one\n");
+    println!("step    n      ours  straight  ours/straight");
+    let round = FIGURES.round;
+    for step in STEPS {
+        let count = (780 - 380) / step + 1;
+        let work = Work::new(380, step, count as usize);
+        let [ours, straight] = best([&mut || round(&OURS, &work), &mut || round(&STRAIGHT, &work)]);
+        let ratio = ours / straight;
+        println!("{step:4}{count:5}{ours:10.0}{straight:10.0}{ratio:15.2}");
+    }
+}
+
 fn print_growth() {
     println!("\nGrowth of ours: ns for one\n");
     print!("step  start  last    n");
@@ -105,7 +122,7 @@ fn print_growth() {
         print!("{:>10}", task.name);
     }
     println!();
-    for step in [1, 2, 5, 10] {
+    for step in STEPS {
         for (start, last) in [(380, 780), (360, 830), (300, 830)] {
             let count = ((last - start) / step + 1) as usize;
             let work = Work::new(start, step, count);

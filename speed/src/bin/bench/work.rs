@@ -113,7 +113,7 @@ const WRITING: Task = Task {
     dot: None,
 };
 
-const FIGURES: Task = Task {
+pub const FIGURES: Task = Task {
     name: "figures",
     says: "seven figures of a spectrum",
     target: Some(0.70),
