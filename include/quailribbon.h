@@ -54,6 +54,7 @@ typedef struct { uint32_t number, place; double x, y; } qr_chart_answer;
 typedef struct { uint32_t number, place, start, step, count; } qr_record_answer;
 typedef struct { uint32_t number, place, length; } qr_written;
 typedef struct { uint32_t number, place, photopic, scotopic, X, Y, Z, xy_number, x, y; } qr_figures_answer;
+typedef struct { uint32_t number, place, X, Y, Z, xy_number, x, y; } qr_panel_figures_answer;
 
 /* Illuminances in millilux: photopic, scotopic, 10° photopic, and mesopic at k thousandths. */
 qr_reading qr_photopic(uint32_t start, uint32_t step, const uint32_t *samples, size_t count);
@@ -71,9 +72,10 @@ qr_xyz_answer qr_panel_xyz(uint32_t observer, uint32_t illuminant, uint32_t star
 qr_xy_answer qr_panel_xy(uint32_t observer, uint32_t illuminant, uint32_t start, uint32_t step, const uint16_t *reflectances, size_t count);
 qr_chart_answer qr_panel_chart(uint32_t observer, uint32_t illuminant, uint32_t start, uint32_t step, const uint16_t *reflectances, size_t count);
 
-/* The report's figures of a light in one call, at observer 2. Where number is 0, xy_number is that of x and y: 0, or 9
-   where they are dark. */
+/* The report's figures of a light in one call, at observer 2; a panel's X, Y, Z and x, y in one call. Where number is 0,
+   xy_number is that of x and y: 0, or 9 where they are dark. */
 qr_figures_answer qr_figures(uint32_t start, uint32_t step, const uint32_t *samples, size_t count);
+qr_panel_figures_answer qr_panel_figures(uint32_t observer, uint32_t illuminant, uint32_t start, uint32_t step, const uint16_t *reflectances, size_t count);
 
 /* A packed record: read into the lent row of `room` samples, written into the lent `room` bytes. */
 qr_record_answer qr_read_record(const uint8_t *bytes, size_t length, uint32_t *samples, size_t room);

@@ -40,6 +40,13 @@ static void panels(void) {
     expect("qr_panel_xy", xy.number == 0 && xy.x == 31273 && xy.y == 32902);
     qr_chart_answer chart = qr_panel_chart(2, 2, 360, 1, white, 471);
     expect("qr_panel_chart", chart.number == 0 && chart.place == 0 && chart.x == 31273 / 100000.0 && chart.y == 32902 / 100000.0);
+    qr_panel_figures_answer f = qr_panel_figures(2, 2, 360, 1, white, 471);
+    expect("qr_panel_figures", f.number == 0 && f.place == 0 && f.X == 95047 && f.Y == 100000 && f.Z == 108883 &&
+                                   f.xy_number == 0 && f.x == 31273 && f.y == 32902);
+    static const uint16_t black[471];
+    f = qr_panel_figures(10, 1, 360, 1, black, 471);
+    expect("a black panel's figures", f.number == 0 && f.X == 0 && f.Y == 0 && f.Z == 0 && f.xy_number == QR_DARK &&
+                                          f.x == 0 && f.y == 0);
 }
 
 static void records(void) {
@@ -78,6 +85,9 @@ static void refusals(void) {
     white[470] = 10001;
     qr_xy_answer panel = qr_panel_xy(2, 1, 360, 1, white, 471);
     expect("REFLECTANCE", panel.number == QR_REFLECTANCE && panel.place == 470);
+    qr_panel_figures_answer f = qr_panel_figures(2, 1, 360, 1, white, 471);
+    expect("REFLECTANCE of figures", f.number == QR_REFLECTANCE && f.place == 470 && f.X == 0 && f.Y == 0 && f.Z == 0 &&
+                                         f.xy_number == 0 && f.x == 0 && f.y == 0);
     expect("ROOM", qr_write_record(380, 1, samples, 401, record, 1005).number == QR_ROOM);
     expect("LENGTH", qr_read_record(record, 2, faulty, 401).number == QR_LENGTH);
     expect("ROOM of a report", qr_report(record, 0, text, sizeof text).number == QR_ROOM);
@@ -90,6 +100,7 @@ static void empty_rows(void) {
     expect("an empty light", qr_photopic(380, 1, NULL, 0).number == QR_COUNT);
     expect("empty figures", qr_figures(380, 1, NULL, 0).number == QR_COUNT);
     expect("an empty panel", qr_panel_xyz(2, 1, 380, 1, NULL, 0).number == QR_COUNT);
+    expect("an empty panel's figures", qr_panel_figures(2, 1, 380, 1, NULL, 0).number == QR_COUNT);
     expect("an empty record", qr_read_record(NULL, 0, NULL, 0).number == QR_LENGTH);
     expect("an empty light to be written", qr_write_record(380, 1, NULL, 0, record, sizeof record).number == QR_COUNT);
     expect("no room for a record", qr_write_record(380, 1, samples, 401, NULL, 0).number == QR_ROOM);

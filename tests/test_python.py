@@ -90,8 +90,14 @@ class Panels(Case):
         self.assertEqual(quailribbon.panel_xy(2, 2, 360, 1, WHITE), (31273, 32902))
         self.assertEqual(quailribbon.panel_chart(2, 2, 360, 1, WHITE), (31273 / 100000, 32902 / 100000))
 
+    def test_figures(self):
+        figures = quailribbon.panel_figures(2, 2, 360, 1, WHITE)
+        self.assertEqual(figures, (95047, 100000, 108883, (31273, 32902)))
+        self.assertEqual((figures.Z, figures.xy.x), (108883, 31273))
+
     def test_black(self):
         self.assertEqual(quailribbon.panel_xyz(10, 2, 360, 1, BLACK), (0, 0, 0))
+        self.assertEqual(quailribbon.panel_figures(10, 2, 360, 1, BLACK), (0, 0, 0, None))
 
 
 class Records(Case):
@@ -158,12 +164,14 @@ class Refusals(Case):
     def test_observer(self):
         self.assertRefused(6, quailribbon.xyz, 3, 380, 1, example())
         self.assertRefused(6, quailribbon.panel_xy, 0, 3, 360, 1, WHITE)
+        self.assertRefused(6, quailribbon.panel_figures, 3, 3, 360, 1, WHITE)
 
     def test_illuminant(self):
         self.assertRefused(7, quailribbon.panel_chart, 2, 3, 360, 1, WHITE)
 
     def test_reflectance(self):
-        self.assertRefused(8, quailribbon.panel_xyz, 2, 1, 360, 1, changed(WHITE, 470, 10_001), place=470)
+        for call in (quailribbon.panel_xyz, quailribbon.panel_figures):
+            self.assertRefused(8, call, 2, 1, 360, 1, changed(WHITE, 470, 10_001), place=470)
 
     def test_dark(self):
         self.assertRefused(9, quailribbon.xy, 2, 380, 1, DARK)
@@ -502,7 +510,7 @@ class Package(Case):
 class Hints(Case):
     def test_everything_public_has_them(self):
         functions = [getattr(quailribbon, name) for name in quailribbon.__all__ if name.islower()]
-        self.assertEqual(len(functions), 14)
+        self.assertEqual(len(functions), 15)
         for function in functions:
             with self.subTest(function.__name__):
                 arguments = function.__code__.co_varnames[: function.__code__.co_argcount]

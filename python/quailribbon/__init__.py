@@ -38,6 +38,7 @@ __all__ = [
     "Buffer",
     "ChartPoint",
     "Figures",
+    "PanelFigures",
     "Record",
     "Refused",
     "Row",
@@ -47,6 +48,7 @@ __all__ = [
     "figures",
     "mesopic",
     "panel_chart",
+    "panel_figures",
     "panel_xy",
     "panel_xyz",
     "photopic",
@@ -128,6 +130,15 @@ class Figures(NamedTuple):
 
     photopic: int
     scotopic: int
+    X: int
+    Y: int
+    Z: int
+    xy: Union[Xy, None]
+
+
+class PanelFigures(NamedTuple):
+    """A panel's X, Y and Z in thousandths; `xy` is None where it reflects nothing."""
+
     X: int
     Y: int
     Z: int
@@ -226,11 +237,22 @@ def panel_chart(
     return ChartPoint(answer.x, answer.y)
 
 
+def _colour(answer):
+    return None if answer.xy_number else Xy(answer.x, answer.y)
+
+
 def figures(start: SupportsIndex, step: SupportsIndex, samples: Row) -> Figures:
     """The report's figures at observer 2. Where there is no light they are given all the same, and `xy` is None."""
     answer = _light(_c.figures, start, step, samples)
-    colour = None if answer.xy_number else Xy(answer.x, answer.y)
-    return Figures(answer.photopic, answer.scotopic, answer.X, answer.Y, answer.Z, colour)
+    return Figures(answer.photopic, answer.scotopic, answer.X, answer.Y, answer.Z, _colour(answer))
+
+
+def panel_figures(
+    observer: SupportsIndex, illuminant: SupportsIndex, start: SupportsIndex, step: SupportsIndex, reflectances: Row
+) -> PanelFigures:
+    """A panel's X, Y, Z and x, y in one call. Where it reflects nothing X, Y, Z are 0, and `xy` is None."""
+    answer = _panel(_c.panel_figures, observer, illuminant, start, step, reflectances)
+    return PanelFigures(answer.X, answer.Y, answer.Z, _colour(answer))
 
 
 def read_record(record: Row) -> Record:

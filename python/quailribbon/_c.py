@@ -37,6 +37,7 @@ _Chart = _answer("_Chart", floats=("x", "y"))
 _Record = _answer("_Record", "start", "step", "count")
 _Written = _answer("_Written", "length")
 _Figures = _answer("_Figures", "photopic", "scotopic", "X", "Y", "Z", "xy_number", "x", "y")
+_PanelFigures = _answer("_PanelFigures", "X", "Y", "Z", "xy_number", "x", "y")
 
 
 class Room(NamedTuple):
@@ -77,6 +78,7 @@ panel_xyz = _function("qr_panel_xyz", _Xyz, **_PANEL)
 panel_xy = _function("qr_panel_xy", _Xy, **_PANEL)
 panel_chart = _function("qr_panel_chart", _Chart, **_PANEL)
 figures = _function("qr_figures", _Figures, **_LIGHT)
+panel_figures = _function("qr_panel_figures", _PanelFigures, **_PANEL)
 read_record = _function("qr_read_record", _Record, bytes=BYTES, samples=Room(SAMPLES))
 write_record = _function("qr_write_record", _Written, **_LIGHT, bytes=Room(BYTES))
 report = _function("qr_report", _Written, bytes=BYTES, text=Room(BYTES))

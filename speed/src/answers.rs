@@ -88,6 +88,21 @@ pub struct FiguresAnswer {
     pub y: u32,
 }
 
+/// As for the figures of a light.
+#[allow(non_snake_case)]
+#[repr(C)]
+#[derive(Clone, Copy, Debug, Default, PartialEq)]
+pub struct PanelFiguresAnswer {
+    pub number: u32,
+    pub place: u32,
+    pub X: u32,
+    pub Y: u32,
+    pub Z: u32,
+    pub xy_number: u32,
+    pub x: u32,
+    pub y: u32,
+}
+
 macro_rules! answers {
     ($($name:ident),*) => {
         $(impl Answer for $name {
@@ -105,5 +120,6 @@ answers!(
     ChartAnswer,
     RecordAnswer,
     Written,
-    FiguresAnswer
+    FiguresAnswer,
+    PanelFiguresAnswer
 );

@@ -68,6 +68,14 @@ mod c {
             samples: *const u32,
             count: usize,
         ) -> FiguresAnswer;
+        pub fn qr_panel_figures(
+            observer: u32,
+            illuminant: u32,
+            start: u32,
+            step: u32,
+            reflectances: *const u16,
+            count: usize,
+        ) -> PanelFiguresAnswer;
         pub fn qr_read_record(
             bytes: *const u8,
             length: usize,
@@ -152,6 +160,17 @@ pub fn panel_chart(
 
 pub fn figures(start: u32, step: u32, samples: &[u32]) -> FiguresAnswer {
     unsafe { c::qr_figures(start, step, samples.as_ptr(), samples.len()) }
+}
+
+pub fn panel_figures(
+    observer: u32,
+    illuminant: u32,
+    start: u32,
+    step: u32,
+    reflectances: &[u16],
+) -> PanelFiguresAnswer {
+    let (row, count) = (reflectances.as_ptr(), reflectances.len());
+    unsafe { c::qr_panel_figures(observer, illuminant, start, step, row, count) }
 }
 
 pub fn read_record(record: &[u8], samples: &mut [u32]) -> RecordAnswer {

@@ -12,6 +12,6 @@ mod refusal;
 mod report;
 
 pub use light::{chart, figures, mesopic, photopic, photopic_10, scotopic, xy, xyz};
-pub use panel::{panel_chart, panel_xy, panel_xyz};
+pub use panel::{panel_chart, panel_figures, panel_xy, panel_xyz};
 pub use record::{read_record, write_record};
 pub use report::report;

@@ -89,6 +89,9 @@ fn p9_white_panels() {
     };
     assert_eq!(of(1), [109850, 100000, 35585]);
     assert_eq!(of(2), [95047, 100000, 108883]);
+    let figures = panel_figures(2, 2, 360, 1, &white);
+    assert_eq!([figures.X, figures.Y, figures.Z], of(2));
+    assert_eq!([figures.xy_number, figures.x, figures.y], [0, 31273, 32902]);
 }
 
 #[test]

@@ -1,8 +1,8 @@
 //! The readings of a light.
 
 use super::flat::{chart_answer, reading, xy_answer, xyz_answer};
-use super::line::{coordinates, line, nearest, observer, weigh};
-use super::refusal::{check_grid, check_samples, Refusal, DARK, MESOPIC};
+use super::line::{coordinates, coordinates_or_dark, line, nearest, observer, weigh};
+use super::refusal::{check_grid, check_samples, Refusal, MESOPIC};
 use crate::answers::{ChartAnswer, FiguresAnswer, Reading, XyAnswer, XyzAnswer};
 use crate::tables::{Table, V_PRIME, Y, Y10};
 
@@ -53,11 +53,7 @@ fn seven(start: u32, step: u32, samples: &[u32]) -> Result<FiguresAnswer, Refusa
     let millilux = |sum: u128| nearest(observer.efficacy * sum, u128::from(step) * SCALE);
     let [x, y, z] = [millilux(sums[0])?, millilux(sums[1])?, millilux(sums[2])?];
     let scotopic = nearest(1700 * weigh(&V_PRIME, &line), u128::from(step) * SCALE)?;
-    let (xy_number, [chart_x, chart_y]) = match coordinates(sums) {
-        Ok(coordinates) => (0, coordinates),
-        Err(refusal) if refusal.number == DARK.number => (DARK.number, [0, 0]),
-        Err(refusal) => return Err(refusal),
-    };
+    let (xy_number, [chart_x, chart_y]) = coordinates_or_dark(sums)?;
     Ok(FiguresAnswer {
         number: 0,
         place: 0,

@@ -58,6 +58,15 @@ pub fn nearest(numerator: u128, denominator: u128) -> Result<u32, Refusal> {
     u32::try_from(nearest).map_err(|_| OVERRANGE)
 }
 
+/// The number and the values of x and y, where dark ones are 9 and no refusal of the whole.
+pub fn coordinates_or_dark(sums: [u128; 3]) -> Result<(u32, [u32; 2]), Refusal> {
+    match coordinates(sums) {
+        Ok(coordinates) => Ok((0, coordinates)),
+        Err(refusal) if refusal.number == DARK.number => Ok((DARK.number, [0, 0])),
+        Err(refusal) => Err(refusal),
+    }
+}
+
 /// x and y from the three exact sums, or 9.
 pub fn coordinates(sums: [u128; 3]) -> Result<[u32; 2], Refusal> {
     let [x, y, z] = sums;

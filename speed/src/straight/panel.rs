@@ -1,9 +1,9 @@
 //! The readings of a panel.
 
 use super::flat::{chart_answer, xy_answer, xyz_answer};
-use super::line::{coordinates, line, nearest, observer, weigh};
+use super::line::{coordinates, coordinates_or_dark, line, nearest, observer, weigh};
 use super::refusal::{check_each, check_grid, Refusal, ILLUMINANT, REFLECTANCE};
-use crate::answers::{ChartAnswer, XyAnswer, XyzAnswer};
+use crate::answers::{ChartAnswer, PanelFiguresAnswer, XyAnswer, XyzAnswer};
 use crate::tables::{Table, A, D65};
 
 const LARGEST_REFLECTANCE: u16 = 10_000;
@@ -40,14 +40,63 @@ pub fn panel_chart(
     chart_answer(sums.and_then(coordinates))
 }
 
+/// X, Y, Z and x, y of one panel: T is made once, and both come from the same three sums.
+pub fn panel_figures(
+    observer: u32,
+    illuminant: u32,
+    start: u32,
+    step: u32,
+    reflectances: &[u16],
+) -> PanelFiguresAnswer {
+    five(observer, illuminant, start, step, reflectances).unwrap_or_else(
+        |Refusal { number, place }| PanelFiguresAnswer {
+            number,
+            place,
+            ..Default::default()
+        },
+    )
+}
+
+fn five(
+    observer: u32,
+    illuminant: u32,
+    start: u32,
+    step: u32,
+    reflectances: &[u16],
+) -> Result<PanelFiguresAnswer, Refusal> {
+    let sums = sums(observer, illuminant, start, step, reflectances)?;
+    let [x, y, z] = thousandths(observer, illuminant, step, sums)?;
+    let (xy_number, [chart_x, chart_y]) = coordinates_or_dark(sums)?;
+    Ok(PanelFiguresAnswer {
+        number: 0,
+        place: 0,
+        X: x,
+        Y: y,
+        Z: z,
+        xy_number,
+        x: chart_x,
+        y: chart_y,
+    })
+}
+
 fn tristimulus(
-    asked_observer: u32,
-    asked_illuminant: u32,
+    observer: u32,
+    illuminant: u32,
     start: u32,
     step: u32,
     reflectances: &[u16],
 ) -> Result<[u32; 3], Refusal> {
-    let sums = sums(asked_observer, asked_illuminant, start, step, reflectances)?;
+    let sums = sums(observer, illuminant, start, step, reflectances)?;
+    thousandths(observer, illuminant, step, sums)
+}
+
+/// X, Y and Z from the panel's sums, over the white's.
+fn thousandths(
+    asked_observer: u32,
+    asked_illuminant: u32,
+    step: u32,
+    sums: [u128; 3],
+) -> Result<[u32; 3], Refusal> {
     let [_, y_weights, _] = observer(asked_observer)?.functions;
     // The white runs over 360 to 830 whatever the panel's own range.
     let white = weigh(y_weights, illuminant(asked_illuminant)?);

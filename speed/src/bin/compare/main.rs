@@ -114,6 +114,7 @@ fn compare_panel(mut check: Check, panel: &Panel) -> Result<(), Difference> {
     same!("qr_panel_xyz", panel_xyz);
     same!("qr_panel_xy", panel_xy);
     same!("qr_panel_chart", panel_chart);
+    same!("qr_panel_figures", panel_figures);
     Ok(())
 }
 
@@ -159,8 +160,9 @@ fn compare_overlong() -> Result<(), Difference> {
         ffi::panel_xyz(2, 1, start, step, &reflectances).number,
         ffi::panel_xy(2, 1, start, step, &reflectances).number,
         ffi::panel_chart(2, 1, start, step, &reflectances).number,
+        ffi::panel_figures(2, 1, start, step, &reflectances).number,
     ];
-    if numbers != [3; 9] || panel_numbers != [3; 3] {
+    if numbers != [3; 9] || panel_numbers != [3; 4] {
         return Err(format!(
             "{COUNT} samples at step 10 are not refused 3 everywhere: {numbers:?} {panel_numbers:?}"
         ));
