@@ -17,8 +17,7 @@ pub struct Library {
     write_record: fn(u32, u32, &[u32], &mut [u8]) -> Written,
     figures: fn(u32, u32, &[u32]) -> FiguresAnswer,
     report: fn(&[u8], &mut [u8]) -> Written,
-    panel_xyz: fn(u32, u32, u32, u32, &[u16]) -> XyzAnswer,
-    panel_xy: fn(u32, u32, u32, u32, &[u16]) -> XyAnswer,
+    panel_figures: fn(u32, u32, u32, u32, &[u16]) -> PanelFiguresAnswer,
 }
 
 pub static OURS: Library = Library {
@@ -26,8 +25,7 @@ pub static OURS: Library = Library {
     write_record: ffi::write_record,
     figures: ffi::figures,
     report: ffi::report,
-    panel_xyz: ffi::panel_xyz,
-    panel_xy: ffi::panel_xy,
+    panel_figures: ffi::panel_figures,
 };
 
 pub static STRAIGHT: Library = Library {
@@ -35,8 +33,7 @@ pub static STRAIGHT: Library = Library {
     write_record: straight::write_record,
     figures: straight::figures,
     report: straight::report,
-    panel_xyz: straight::panel_xyz,
-    panel_xy: straight::panel_xy,
+    panel_figures: straight::panel_figures,
 };
 
 /// Lights, their records, and panels, all on one grid.
@@ -145,6 +142,8 @@ pub const REPORT: Task = Task {
     dot: None,
 };
 
+/// One call each. The straightforward one makes T once, takes both X, Y, Z and x, y from the same
+/// three sums, and adds up the white in every call.
 const PANEL: Task = Task {
     name: "panel",
     says: "a panel, X, Y, Z and x, y",
@@ -152,8 +151,7 @@ const PANEL: Task = Task {
     round: |library, work| {
         for panel in &work.panels {
             let (start, step) = black_box((work.start, work.step));
-            black_box((library.panel_xyz)(OBSERVER, D65, start, step, panel));
-            black_box((library.panel_xy)(OBSERVER, D65, start, step, panel));
+            black_box((library.panel_figures)(OBSERVER, D65, start, step, panel));
         }
     },
     dot: Some(|work| {
