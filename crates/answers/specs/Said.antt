@@ -1,6 +1,7 @@
 -- The paper's number, place and values for each case of each answer.
 use mathlib.Core.List.{List, [], _∷_}
 use Prim.Native.Nat.{ℕ}
+use Rattle.grid.specs.Refusals.{DARK}
 use Rattle.grid.specs.Check.{refusal}
 use Rattle.grid.specs.Said.{Said, value, given, refusedWith}
 use Rattle.answers.specs.declared.Reading.{Reading}
@@ -28,7 +29,7 @@ colourValues xy = saidXy xy .number ∷ value (saidXy xy) 0 ∷ value (saidXy xy
 -- dark is refused 9, as x and y are, and has no values
 abbrev pub saidOnChart : OnChart → Said
 saidOnChart (OnChart.Point p) = given [] (p .x ∷ p .y ∷ [])
-saidOnChart OnChart.Dark = refusedWith (refusal 9 0)
+saidOnChart OnChart.Dark = refusedWith (refusal DARK 0)
 
 abbrev pub saidChart : ChartAnswer → Said
 saidChart (ChartAnswer.Given o) = saidOnChart o

@@ -4,6 +4,7 @@ use Prim.Native.Nat.{ℕ, _+_, _*_}
 use lib.IntN.{pos}
 use lib.Ieee.{Float, binary64, div, ofInt}
 use lib.Dec.{leb, eqb}
+use Rattle.grid.specs.Refusals.{DARK, OVERRANGE}
 use Rattle.grid.specs.Check.{refusal}
 use Rattle.mixing.specs.Nearest.{nearest}
 use Rattle.answers.specs.declared.Reading.{Reading}
@@ -19,19 +20,19 @@ isFitting q = leb q 4294967295
 
 -- the nearest of n / d, or OVERRANGE
 unfoldable pub readingFrom : ℕ → ℕ → Reading
-readingFrom n d = cond (isFitting (nearest n d)) (Reading.Value (nearest n d)) (Reading.Refused (refusal 15 0))
+readingFrom n d = cond (isFitting (nearest n d)) (Reading.Value (nearest n d)) (Reading.Refused (refusal OVERRANGE 0))
 
 -- the nearest of each of x, y, z over d, or OVERRANGE
 unfoldable pub xyzFrom : ℕ → ℕ → ℕ → ℕ → XyzAnswer
 xyzFrom x y z d =
     cond (isFitting (nearest x d) && isFitting (nearest y d) && isFitting (nearest z d))
     (XyzAnswer.Value (record { x = nearest x d; y = nearest y d; z = nearest z d }))
-    (XyzAnswer.Refused (refusal 15 0))
+    (XyzAnswer.Refused (refusal OVERRANGE 0))
 
 -- the nearest of 100000 X / (X + Y + Z), and likewise of Y, or DARK where the divisor is 0
 unfoldable pub xyFrom : ℕ → ℕ → ℕ → XyAnswer
 xyFrom x y z =
-    cond (eqb (x + y + z) 0) (XyAnswer.Refused (refusal 9 0))
+    cond (eqb (x + y + z) 0) (XyAnswer.Refused (refusal DARK 0))
     (XyAnswer.Value (record { x = nearest (100000 * x) (x + y + z); y = nearest (100000 * y) (x + y + z) }))
 
 -- a whole number of hundred-thousandths, made a float and divided once by 100000.0

@@ -12,6 +12,8 @@ use exact::digits::short_times_plus;
 use exact::divide::is_zero;
 use exact::divide::nearest;
 use grid::Refusal;
+use grid::refusals::DARK;
+use grid::refusals::OVERRANGE;
 ghost use mathlib.Core.Path.{_≡_};
 ghost use Prim.Native.Nat.{_+_, _*_, _^_, _≤_, _<_};
 ghost use Rattle.mixing.specs.Nearest.{nearest as nearestOf};
@@ -27,7 +29,7 @@ pub fn reading_from(n: Short, f: u32, d: Short) -> Reading
         Reading::Value(q as u32)
     } else {
         Reading::Refused(Refusal {
-            number: 15,
+            number: OVERRANGE,
             place: 0,
         })
     }
@@ -55,7 +57,7 @@ pub fn xyz_from(sums: Sums, f: u32, d: Short) -> XyzAnswer
         }
     }
     XyzAnswer::Refused(Refusal {
-        number: 15,
+        number: OVERRANGE,
         place: 0,
     })
 }
@@ -71,7 +73,7 @@ pub fn xy_from(sums: Sums) -> XyAnswer
     let total = short_times_plus(short_times_plus(sum_x, 1, sum_y), 1, sum_z);
     if is_zero(total) {
         return XyAnswer::Refused(Refusal {
-            number: 9,
+            number: DARK,
             place: 0,
         });
     }

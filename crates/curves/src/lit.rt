@@ -24,17 +24,16 @@ pub fn lit_sums(observer: u32, illuminant: Illuminant, row: &[u64; 471]) -> Sums
     requires { ⌜ Within 100000 (now row) ⌝ }
     ensures { λ r. ⌜ LitSums observer illuminant (now (row .entry)) r ⌝ }
 {
-    let powers = powers_of(illuminant);
     if observer == 10 {
-        let x = x_bar_10();
-        let y = y_bar_10();
-        let z = z_bar_10();
-        lit_sums_by(&x, &y, &z, &powers, row)
+        lit_sums_by(
+            &x_bar_10(),
+            &y_bar_10(),
+            &z_bar_10(),
+            &powers_of(illuminant),
+            row,
+        )
     } else {
-        let x = x_bar();
-        let y = y_bar();
-        let z = z_bar();
-        lit_sums_by(&x, &y, &z, &powers, row)
+        lit_sums_by(&x_bar(), &y_bar(), &z_bar(), &powers_of(illuminant), row)
     }
 }
 

@@ -71,34 +71,13 @@ pub fn weigh(curve: Curve, row: &[u64; 471]) -> Short
     ensures { λ r. ⌜ short r ≡ weighted 471 (weightOf curve) (entryOf (now (row .entry))) ⌝ }
 {
     match curve {
-        Curve::XBar => {
-            let weights = x_bar();
-            sum(&weights, row)
-        }
-        Curve::YBar => {
-            let weights = y_bar();
-            sum(&weights, row)
-        }
-        Curve::ZBar => {
-            let weights = z_bar();
-            sum(&weights, row)
-        }
-        Curve::XBar10 => {
-            let weights = x_bar_10();
-            sum(&weights, row)
-        }
-        Curve::YBar10 => {
-            let weights = y_bar_10();
-            sum(&weights, row)
-        }
-        Curve::ZBar10 => {
-            let weights = z_bar_10();
-            sum(&weights, row)
-        }
-        Curve::VPrime => {
-            let weights = v_prime();
-            sum(&weights, row)
-        }
+        Curve::XBar => sum(&x_bar(), row),
+        Curve::YBar => sum(&y_bar(), row),
+        Curve::ZBar => sum(&z_bar(), row),
+        Curve::XBar10 => sum(&x_bar_10(), row),
+        Curve::YBar10 => sum(&y_bar_10(), row),
+        Curve::ZBar10 => sum(&z_bar_10(), row),
+        Curve::VPrime => sum(&v_prime(), row),
     }
 }
 

@@ -4,6 +4,7 @@ use mathlib.Core.List.{List, [], _∷_}
 use Prim.Native.Nat.{ℕ, suc, _+_, _*_, _-_, _≤_}
 use lib.ListN.{length, getD}
 use lib.Dec.{leb, ltb, eqb}
+use Rattle.grid.specs.Refusals.{STEP, START, COUNT, SAMPLE, REFLECTANCE}
 use Rattle.grid.specs.declared.Refusal.{Refusal}
 use Rattle.grid.specs.declared.Check.{Check}
 use Rattle.grid.specs.declared.Check.the-variants.{Fine, Refused}
@@ -42,7 +43,7 @@ isObserver o = eqb o 2 || eqb o 10
 
 -- STEP, START, COUNT
 unfoldable pub gridCheck : ℕ → ℕ → ℕ → Check
-gridCheck a s n = require (isStep s) 1 (require (isStart a) 2 (require (isCount a s n) 3 Fine))
+gridCheck a s n = require (isStep s) STEP (require (isStart a) START (require (isCount a s n) COUNT Fine))
 
 -- the refusal with this number at the first sample above the limit, where the first of the row has this place
 unfoldable pub limitCheck : ℕ → ℕ → ℕ → List ℕ → Check
@@ -55,7 +56,7 @@ Within limit xs = (k : ℕ) → getD xs k 0 ≤ limit
 
 -- SAMPLE: a sample above 1,000,000
 abbrev pub samplesCheck : List ℕ → Check
-samplesCheck xs = limitCheck 4 1000000 0 xs
+samplesCheck xs = limitCheck SAMPLE 1000000 0 xs
 
 -- the checks of a light: STEP, START, COUNT, then SAMPLE
 unfoldable pub lightCheck : ℕ → ℕ → List ℕ → Check
@@ -63,4 +64,4 @@ lightCheck a s xs = unless (gridCheck a s (length xs)) Refused (samplesCheck xs)
 
 -- REFLECTANCE: a reflectance above 10,000
 abbrev pub reflectancesCheck : List ℕ → Check
-reflectancesCheck rs = limitCheck 8 10000 0 rs
+reflectancesCheck rs = limitCheck REFLECTANCE 10000 0 rs

@@ -1,3 +1,4 @@
 -- Definitions of the crate `grid`.
+pub mod Refusals
 pub mod Check
 pub mod Said

@@ -1,4 +1,10 @@
 // Refusals, and the checks that every spectrum, panel and record shares: step, start, count, observer, and the limit of a sample.
+pub mod refusals;
+
+use crate::refusals::COUNT;
+use crate::refusals::SAMPLE;
+use crate::refusals::START;
+use crate::refusals::STEP;
 ghost use mathlib.Core.Path.{_≡_};
 ghost use mathlib.Core.Bool.{true};
 ghost use Prim.Native.Nat.{_≤_};
@@ -29,13 +35,13 @@ pub fn check_grid(start: u32, step: u32, count: usize) -> Check
     ensures { λ r. ⌜ r ≡ gridCheck start step count ⌝ }
 {
     if !is_step(step) {
-        return refused(1);
+        return refused(STEP);
     }
     if !is_start(start) {
-        return refused(2);
+        return refused(START);
     }
     if !is_count(start, step, count) {
-        return refused(3);
+        return refused(COUNT);
     }
     Check::Fine
 }
@@ -104,7 +110,7 @@ pub fn check_samples(samples: &[u32]) -> Check
     requires { ⌜ length (now samples) ≤ 531 ⌝ }
     ensures { λ r. ⌜ r ≡ samplesCheck (now (samples .entry)) ⌝ }
 {
-    check_limit(4, 1000000, samples)
+    check_limit(SAMPLE, 1000000, samples)
 }
 
 // The refusal with this number at the first sample above the limit.

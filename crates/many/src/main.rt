@@ -160,7 +160,7 @@ fn colour(observer: u32, start: u32, step: u32, samples: &[u32]) {
     shown::xyz(readings::colour::xyz(observer, start, step, samples));
     shown::xy(readings::colour::xy(observer, start, step, samples));
     shown::chart(readings::colour::chart(observer, start, step, samples));
-    shown::figures(readings::report::figures(start, step, samples));
+    shown::figures(readings::figures::figures(start, step, samples));
 }
 
 fn panel(observer: u32, illuminant: u32, start: u32, step: u32, reflectances: &[u16]) {

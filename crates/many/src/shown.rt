@@ -5,7 +5,7 @@ use answers::Reading;
 use answers::XyAnswer;
 use answers::XyzAnswer;
 use grid::Refusal;
-use readings::report::FiguresAnswer;
+use readings::figures::FiguresAnswer;
 
 pub fn space() {
     io::write_all(1, b" ");

@@ -6,7 +6,7 @@ use native.Mathlib.Omega.{arith}
 use lib.ListN.{length, drop, length-append}
 use lib.Seq.{drop-append-add}
 use Rattle.answers.specs.declared.XyAnswer.{XyAnswer}
-use Rattle.readings.specs.declared.report.FiguresAnswer.{FiguresAnswer}
+use Rattle.readings.specs.declared.figures.FiguresAnswer.{FiguresAnswer}
 use Rattle.page.specs.Report.{newline, line, dash, smallX, smallY, coordinate, refused, numbered, colourLines, readingLines, figureLines, textOf}
 
 pub record Ends (text : List ℕ) : Type 0 where

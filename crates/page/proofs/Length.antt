@@ -9,8 +9,8 @@ use lib.ListN.{length, length-append}
 use lib.Dec.{eqb}
 use Rattle.grid.specs.declared.Refusal.{Refusal}
 use Rattle.answers.specs.declared.XyAnswer.{XyAnswer}
-use Rattle.readings.specs.declared.report.ReportFigures.{ReportFigures}
-use Rattle.readings.specs.declared.report.FiguresAnswer.{FiguresAnswer}
+use Rattle.readings.specs.declared.figures.ReportFigures.{ReportFigures}
+use Rattle.readings.specs.declared.figures.FiguresAnswer.{FiguresAnswer}
 use Rattle.page.specs.Report.{photopic, scotopic, bigX, bigY, bigZ, dash, at, refused, decimal, coordinate, line, numbered, smallX, smallY, colourLines, figureLines, textOf, answerOf, reportOf}
 use Rattle.page.specs.Answer.{reportAnswer}
 use Rattle.record.specs.Said.{wrote}

@@ -19,8 +19,8 @@ use Rattle.answers.specs.declared.Reading.{Reading}
 use Rattle.answers.specs.declared.XyzAnswer.{XyzAnswer}
 use Rattle.answers.specs.declared.XyAnswer.{XyAnswer}
 use Rattle.answers.specs.Worked.{isFitting, readingFrom, xyzFrom, xyFrom}
-use Rattle.readings.specs.declared.report.ReportFigures.{ReportFigures}
-use Rattle.readings.specs.declared.report.FiguresAnswer.{FiguresAnswer}
+use Rattle.readings.specs.declared.figures.ReportFigures.{ReportFigures}
+use Rattle.readings.specs.declared.figures.FiguresAnswer.{FiguresAnswer}
 use Rattle.readings.specs.Readings.{illuminanceOf, photopicOf, scotopicOf, colourCheck, xyzOf, xyOf, together, figuresOf}
 use Rattle.grid.specs.Check.{lightCheck}
 use Rattle.record.specs.Format.{startOf, stepOf, countOf, samplesOf}

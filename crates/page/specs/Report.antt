@@ -3,13 +3,14 @@ use mathlib.Core.Bool.{cond}
 use mathlib.Core.List.{List, [], _∷_, _++_}
 use Prim.Native.Nat.{ℕ, zero, suc, _+_, _/_, _%_}
 use lib.Dec.{ltb, eqb}
+use Rattle.grid.specs.Refusals.{SAMPLE}
 use Rattle.grid.specs.declared.Refusal.{Refusal}
 use Rattle.grid.specs.Check.{unless}
 use Rattle.record.specs.Format.{startOf, stepOf, countOf, samplesOf}
 use Rattle.record.specs.Answer.{recordCheck}
 use Rattle.answers.specs.declared.XyAnswer.{XyAnswer}
-use Rattle.readings.specs.declared.report.ReportFigures.{ReportFigures}
-use Rattle.readings.specs.declared.report.FiguresAnswer.{FiguresAnswer}
+use Rattle.readings.specs.declared.figures.ReportFigures.{ReportFigures}
+use Rattle.readings.specs.declared.figures.FiguresAnswer.{FiguresAnswer}
 use Rattle.readings.specs.Readings.{figuresOf}
 
 -- "photopic "
@@ -96,7 +97,7 @@ figureLines f = readingLines f ++ colourLines (f .xy)
 
 -- a refusal's number, with its place for 4 only
 unfoldable pub numbered : Refusal → List ℕ
-numbered r = decimal (r .number) ++ cond (eqb (r .number) 4) (at ++ decimal (r .place)) []
+numbered r = decimal (r .number) ++ cond (eqb (r .number) SAMPLE) (at ++ decimal (r .place)) []
 
 -- the seven lines, or the one line of a refusal
 unfoldable pub textOf : FiguresAnswer → List ℕ

@@ -1,10 +1,11 @@
 // The report page: what a record says of its light, as text.
+use grid::refusals::ROOM;
 ghost use mathlib.Core.Path.{_≡_};
 ghost use lib.ListN.{length};
 ghost use Rattle.page.specs.Report.{answerOf};
 ghost use Rattle.page.specs.Answer.{reportAnswer, textAfter};
 use grid::Refusal;
-use readings::report::FiguresAnswer;
+use readings::figures::FiguresAnswer;
 use record::RecordRead;
 
 mod lines;
@@ -26,7 +27,7 @@ pub fn write_report(bytes: &[u8], text: &mut [u8]) -> ReportWritten
     let length = lines::put_text(&mut page, answer_of(bytes));
     if text.len() < length {
         return ReportWritten::Refused(Refusal {
-            number: 14,
+            number: ROOM,
             place: 0,
         });
     }
@@ -42,7 +43,7 @@ fn answer_of(bytes: &[u8]) -> FiguresAnswer
     match record::read_record(bytes, &mut row) {
         RecordRead::Read(said) => {
             let count = said.count as usize;
-            readings::report::figures(said.start, said.step, &row[..count])
+            readings::figures::figures(said.start, said.step, &row[..count])
         }
         RecordRead::Refused(refusal) => FiguresAnswer::Refused(refusal),
     }

@@ -1,4 +1,5 @@
 // The report's lines.
+use grid::refusals::SAMPLE;
 ghost use Prim.Native.Nat.{_+_, _≤_};
 ghost use lib.ListN.{length};
 ghost use Rattle.page.specs.Report.{line, colourLines, figureLines, numbered, textOf};
@@ -8,8 +9,8 @@ use crate::put::put_coordinate;
 use crate::put::put_number;
 use answers::XyAnswer;
 use grid::Refusal;
-use readings::report::FiguresAnswer;
-use readings::report::ReportFigures;
+use readings::figures::FiguresAnswer;
+use readings::figures::ReportFigures;
 
 // What a line says behind its word.
 pub enum Said {
@@ -84,7 +85,7 @@ fn put_refusal(text: &mut [u8], at: usize, refusal: Refusal) -> usize
     ensures { λ r. ⌜ Put (now (text .entry)) at (numbered refusal) r (now (text .exit)) ⌝ }
 {
     let end = put_number(text, at, refusal.number as usize);
-    if refusal.number == 4 {
+    if refusal.number == SAMPLE {
         let place = put(text, end, b" at ");
         return put_number(text, place, refusal.place as usize);
     }

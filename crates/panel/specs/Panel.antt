@@ -4,6 +4,7 @@ use mathlib.Core.List.{List}
 use Prim.Native.Nat.{ℕ, _*_}
 use lib.ListN.{length}
 use lib.Dec.{eqb}
+use Rattle.grid.specs.Refusals.{OBSERVER, ILLUMINANT}
 use Rattle.grid.specs.declared.Check.{Check}
 use Rattle.grid.specs.declared.Check.the-variants.{Refused}
 use Rattle.grid.specs.Check.{unless, require, isObserver, gridCheck, reflectancesCheck}
@@ -31,11 +32,11 @@ surfaceCheck a s rs = unless (gridCheck a s (length rs)) Refused (reflectancesCh
 
 -- OBSERVER, ILLUMINANT, and then the grid's own refusals
 unfoldable pub settingCheck : ℕ → ℕ → ℕ → ℕ → ℕ → Check
-settingCheck o i a s n = require (isObserver o) 6 (require (isIlluminant i) 7 (gridCheck a s n))
+settingCheck o i a s n = require (isObserver o) OBSERVER (require (isIlluminant i) ILLUMINANT (gridCheck a s n))
 
 -- OBSERVER, ILLUMINANT, and then the reflectances' own refusals
 unfoldable pub panelCheck : ℕ → ℕ → ℕ → ℕ → List ℕ → Check
-panelCheck o i a s rs = require (isObserver o) 6 (require (isIlluminant i) 7 (surfaceCheck a s rs))
+panelCheck o i a s rs = require (isObserver o) OBSERVER (require (isIlluminant i) ILLUMINANT (surfaceCheck a s rs))
 
 -- multiply the chosen illuminant, T and x̄ at each nanometre from 360 to 830, and add up: the panel's X sum
 abbrev pub xSum : ℕ → ℕ → ℕ → ℕ → List ℕ → ℕ

@@ -18,8 +18,11 @@ pub fn part_sums(observer: u32, illuminant: u32, first: u32, step: u32, part: &[
     let count = part.len();
     let mut wide = [0u32; 531];
     widen(part, &mut wide);
-    let row = row_from(first, step, &wide[..count]);
-    lit_sums(observer, illuminant_of(illuminant), &row)
+    lit_sums(
+        observer,
+        illuminant_of(illuminant),
+        &row_from(first, step, &wide[..count]),
+    )
 }
 
 // 1 is A, 2 is D65.

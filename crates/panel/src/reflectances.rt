@@ -1,6 +1,7 @@
 // Reflectances: their limit, and how they become samples.
 use grid::Check;
 use grid::check_limit;
+use grid::refusals::REFLECTANCE;
 ghost use mathlib.Core.Path.{_≡_};
 ghost use mathlib.Core.Bool.{true};
 ghost use Prim.Native.Nat.{_≤_};
@@ -19,7 +20,7 @@ pub fn check_reflectances(reflectances: &[u16]) -> Check
     let count = reflectances.len();
     let mut wide = [0u32; 531];
     widen(reflectances, &mut wide);
-    check_limit(8, 10000, &wide[..count])
+    check_limit(REFLECTANCE, 10000, &wide[..count])
 }
 
 // Whether all are within the limit: a pass with no way out, which the machine takes several at a time.

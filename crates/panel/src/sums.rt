@@ -6,6 +6,8 @@ use grid::Check;
 use grid::Refusal;
 use grid::check_grid;
 use grid::is_observer;
+use grid::refusals::ILLUMINANT;
+use grid::refusals::OBSERVER;
 use grid::refused;
 use spectrum::line::begin_at_360;
 ghost use mathlib.Core.Path.{_≡_};
@@ -54,10 +56,10 @@ fn check_setting(observer: u32, illuminant: u32, start: u32, step: u32, count: u
     ensures { λ r. ⌜ r ≡ settingCheck observer illuminant start step count ⌝ }
 {
     if !is_observer(observer) {
-        return refused(6);
+        return refused(OBSERVER);
     }
     if !is_illuminant(illuminant) {
-        return refused(7);
+        return refused(ILLUMINANT);
     }
     check_grid(start, step, count)
 }

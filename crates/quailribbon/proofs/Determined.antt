@@ -10,7 +10,7 @@ use Rattle.readings.proofs.mesopic.Reads as mesopic
 use Rattle.readings.proofs.colour.xyz.Reads as xyz
 use Rattle.readings.proofs.colour.xy.Reads as xy
 use Rattle.readings.proofs.colour.chart.Reads as chart
-use Rattle.readings.proofs.report.figures.Reads as figures
+use Rattle.readings.proofs.figures.figures.Reads as figures
 use Rattle.panel.proofs.figures.panel_figures.Reads as panel-figures
 use Rattle.panel.proofs.panel_xyz.Reads as panel-xyz
 use Rattle.panel.proofs.panel_xy.Reads as panel-xy

@@ -13,9 +13,10 @@ use answers::OnChart;
 use answers::Reading;
 use answers::XyAnswer;
 use answers::XyzAnswer;
+use grid::refusals::DARK;
 use page::ReportWritten;
 use panel::figures::PanelFiguresAnswer;
-use readings::report::FiguresAnswer;
+use readings::figures::FiguresAnswer;
 use record::RecordRead;
 use record::RecordWritten;
 ghost use mathlib.Core.Path.{_≡_};
@@ -105,7 +106,7 @@ fn flat_on_chart(place: OnChart) -> QrChart
     match place {
         OnChart::Point(point) => flat_point(point),
         OnChart::Dark => QrChart {
-            number: 9,
+            number: DARK,
             place: 0,
             x: 0.0,
             y: 0.0,

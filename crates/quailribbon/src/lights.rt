@@ -68,5 +68,5 @@ pub extern "C" fn qr_chart(observer: u32, start: u32, step: u32, samples: &[u32]
 pub extern "C" fn qr_figures(start: u32, step: u32, samples: &[u32]) -> QrFigures
     ensures { λ r. ⌜ r ≡ flatFigures (saidFigures (figuresOf start step (now (samples .entry)))) ⌝ }
 {
-    flat_figures(readings::report::figures(start, step, samples))
+    flat_figures(readings::figures::figures(start, step, samples))
 }

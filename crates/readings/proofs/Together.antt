@@ -11,7 +11,7 @@ use Rattle.answers.specs.declared.Reading.{Reading}
 use Rattle.answers.specs.declared.XyzAnswer.{XyzAnswer}
 use Rattle.answers.specs.declared.XyAnswer.{XyAnswer}
 use Rattle.answers.specs.Worked.{isFitting, readingFrom, xyzFrom}
-use Rattle.readings.specs.declared.report.FiguresAnswer.{FiguresAnswer}
+use Rattle.readings.specs.declared.figures.FiguresAnswer.{FiguresAnswer}
 use Rattle.readings.specs.Readings.{together}
 
 given : (a b c : Bool) (w v : Xyz) (r : Refusal) → cond (a && b && c) (XyzAnswer.Value w) (XyzAnswer.Refused r) ≡ XyzAnswer.Value v → (b ≡ true) × (w ≡ v)

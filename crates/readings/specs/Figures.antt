@@ -2,7 +2,7 @@
 use mathlib.Core.List.{[], _∷_}
 use Rattle.grid.specs.Said.{Said, given, refusedWith}
 use Rattle.answers.specs.Said.{colourValues}
-use Rattle.readings.specs.declared.report.FiguresAnswer.{FiguresAnswer}
+use Rattle.readings.specs.declared.figures.FiguresAnswer.{FiguresAnswer}
 
 -- photopic, scotopic, X, Y, Z, the number of x and y, x, y
 abbrev pub saidFigures : FiguresAnswer → Said

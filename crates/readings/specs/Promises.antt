@@ -4,6 +4,7 @@ use mathlib.Core.Bool.{true}
 use mathlib.Core.List.{List, [], _∷_}
 use Prim.Native.Nat.{ℕ, _+_, _*_, _≤_}
 use lib.ListN.{length, replicate}
+use Rattle.grid.specs.Refusals.{DARK}
 use Rattle.grid.specs.declared.Check.the-variants.{Fine}
 use Rattle.grid.specs.Check.{Within, refusal, isObserver, gridCheck, lightCheck}
 use Rattle.mixing.specs.Mixture.{mix, Below}
@@ -52,7 +53,7 @@ BothLit answer =
 -- where exactly one is dark, the mixture has the other's
 abbrev pub OneDark : Answer → Type 0
 OneDark answer =
-    (a s : ℕ) (xs ys : List ℕ) → Mixable a s xs ys → answer a s xs .number ≡ 9 → answer a s ys .number ≡ 0 →
+    (a s : ℕ) (xs ys : List ℕ) → Mixable a s xs ys → answer a s xs .number ≡ DARK → answer a s ys .number ≡ 0 →
     (answer a s (mix xs ys) ≡ answer a s ys) × (answer a s (mix ys xs) ≡ answer a s ys)
 
 pub record Mixing : Type 0 where
@@ -89,7 +90,7 @@ abbrev pub noughts : Said
 noughts = given (0 ∷ 0 ∷ 0 ∷ []) []
 
 abbrev pub dark : Said
-dark = refusedWith (refusal 9 0)
+dark = refusedWith (refusal DARK 0)
 
 pub record Darkness : Type 0 where
   -- a room with no light is accepted on every accepted grid, and has no light where any curve has weight

@@ -2,6 +2,7 @@
 use mathlib.Core.List.{List}
 use Prim.Native.Nat.{ℕ, _+_, _*_, _-_, _^_}
 use lib.Dec.{leb}
+use Rattle.grid.specs.Refusals.{MESOPIC, OBSERVER}
 use Rattle.grid.specs.declared.Check.{Check}
 use Rattle.grid.specs.Check.{unless, require, isObserver, lightCheck}
 use Rattle.tables.specs.declared.Curve.{Curve}
@@ -14,7 +15,7 @@ use Rattle.answers.specs.declared.XyAnswer.{XyAnswer}
 use Rattle.answers.specs.declared.ChartAnswer.{ChartAnswer}
 use Rattle.answers.specs.Worked.{readingFrom, xyzFrom, xyFrom, onChart}
 use Rattle.curves.specs.Colour.{ofObserver, colourOf}
-use Rattle.readings.specs.declared.report.FiguresAnswer.{FiguresAnswer}
+use Rattle.readings.specs.declared.figures.FiguresAnswer.{FiguresAnswer}
 
 -- W of a curve
 abbrev pub weighed : Curve → ℕ → ℕ → List ℕ → ℕ
@@ -36,7 +37,7 @@ photopic10Of a s xs = illuminanceOf YBar10 684 a s xs
 
 -- MESOPIC: k above 1000
 abbrev pub mesopicCheck : ℕ → ℕ → ℕ → List ℕ → Check
-mesopicCheck k a s xs = require (leb k 1000) 5 (lightCheck a s xs)
+mesopicCheck k a s xs = require (leb k 1000) MESOPIC (lightCheck a s xs)
 
 -- k · W(V) + (1000 - k) · W(V′)
 abbrev pub mesopicWeighed : ℕ → ℕ → ℕ → List ℕ → ℕ
@@ -56,7 +57,7 @@ mesopicOf k a s xs =
 
 -- OBSERVER: neither 2 nor 10
 abbrev pub colourCheck : ℕ → ℕ → ℕ → List ℕ → Check
-colourCheck o a s xs = require (isObserver o) 6 (lightCheck a s xs)
+colourCheck o a s xs = require (isObserver o) OBSERVER (lightCheck a s xs)
 
 abbrev pub xSum : ℕ → ℕ → ℕ → List ℕ → ℕ
 xSum o a s xs = weighed (colourOf o .x) a s xs

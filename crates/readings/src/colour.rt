@@ -11,6 +11,7 @@ use curves::weigh::Sums;
 use grid::Check;
 use grid::check_light;
 use grid::is_observer;
+use grid::refusals::OBSERVER;
 use grid::refused;
 use spectrum::line::begin_at_360;
 ghost use mathlib.Core.Path.{_≡_};
@@ -69,7 +70,7 @@ fn check_colour(observer: u32, start: u32, step: u32, samples: &[u32]) -> Check
     if is_observer(observer) {
         check_light(start, step, samples)
     } else {
-        refused(6)
+        refused(OBSERVER)
     }
 }
 

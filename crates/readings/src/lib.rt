@@ -1,7 +1,7 @@
 // Every reading of a light. The illuminances are here.
 pub mod colour;
+pub mod figures;
 pub mod promises;
-pub mod report;
 mod sums;
 
 use crate::sums::mesopic_weighed;
@@ -14,6 +14,7 @@ use exact::digits::short_times_plus;
 use grid::Check;
 use grid::Refusal;
 use grid::check_light;
+use grid::refusals::MESOPIC;
 use spectrum::line::begin_at_360;
 use tables::Curve;
 ghost use mathlib.Core.Path.{_≡_};
@@ -74,7 +75,7 @@ pub fn mesopic(k: u32, start: u32, step: u32, samples: &[u32]) -> Reading
 {
     if 1000 < k {
         return Reading::Refused(Refusal {
-            number: 5,
+            number: MESOPIC,
             place: 0,
         });
     }

@@ -20,8 +20,7 @@ pub fn weighed(curve: Curve, first: u32, step: u32, part: &[u32]) -> Short
     requires { ⌜ Begun 1000000 first step (now part) ⌝ }
     ensures { λ r. ⌜ short r ≡ weighedBy curve first step (now (part .entry)) ⌝ }
 {
-    let row = row_from(first, step, part);
-    weigh(curve, &row)
+    weigh(curve, &row_from(first, step, part))
 }
 
 // k · W(V) + (1000 - k) · W(V′).
@@ -39,8 +38,7 @@ pub fn colour_sums(observer: u32, first: u32, step: u32, part: &[u32]) -> Sums
     requires { ⌜ Begun 1000000 first step (now part) ⌝ }
     ensures { λ r. ⌜ LightSums observer first step (now (part .entry)) r ⌝ }
 {
-    let row = row_from(first, step, part);
-    row_sums(observer, &row)
+    row_sums(observer, &row_from(first, step, part))
 }
 
 // The four sums of the report: those of observer 2, and V′.

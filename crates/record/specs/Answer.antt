@@ -3,6 +3,7 @@ use mathlib.Core.List.{List, _++_}
 use Prim.Native.Nat.{ℕ}
 use lib.ListN.{length, drop}
 use lib.Dec.{leb, eqb}
+use Rattle.grid.specs.Refusals.{EDITION, RESERVED, LENGTH, PADDING, ROOM}
 use Rattle.grid.specs.Check.{require, unless, gridCheck, samplesCheck, lightCheck}
 use Rattle.grid.specs.declared.Check.{Check}
 use Rattle.grid.specs.declared.Check.the-variants.{Fine, Refused}
@@ -20,16 +21,16 @@ thenCheck check next = unless check Refused next
 -- LENGTH where under 3 bytes, EDITION, RESERVED, START, COUNT
 unfoldable pub headerCheck : List ℕ → Check
 headerCheck bytes =
-    require (leb 3 (length bytes)) 12
-    (require (eqb (editionOf bytes) 1) 10
-    (require (eqb (reservedOf bytes) 0) 11
+    require (leb 3 (length bytes)) LENGTH
+    (require (eqb (editionOf bytes) 1) EDITION
+    (require (eqb (reservedOf bytes) 0) RESERVED
     (gridCheck (startOf bytes) (stepOf bytes) (countOf bytes))))
 
 -- LENGTH, PADDING, SAMPLE of a record with n samples
 unfoldable pub bodyCheck : ℕ → List ℕ → Check
 bodyCheck n bytes =
-    require (eqb (length bytes) (lengthOf n)) 12
-    (require (eqb (paddingOf n bytes) 0) 13
+    require (eqb (length bytes) (lengthOf n)) LENGTH
+    (require (eqb (paddingOf n bytes) 0) PADDING
     (samplesCheck (samplesOf n bytes)))
 
 -- whether the record itself is accepted
@@ -38,7 +39,7 @@ recordCheck bytes = thenCheck (headerCheck bytes) (bodyCheck (countOf bytes) byt
 
 -- ROOM: the buffer to be written is too short
 abbrev pub roomCheck : ℕ → ℕ → Check
-roomCheck needed room = require (leb needed room) 14 Fine
+roomCheck needed room = require (leb needed room) ROOM Fine
 
 -- for reading a record: 12 where under 3 bytes, then 10, 11, 2, 3, 12, 13, 4, 14
 abbrev pub readCheck : List ℕ → ℕ → Check

@@ -1,4 +1,7 @@
 // What stands behind the header: its length, its padding and its samples, checked and then copied.
+use grid::refusals::LENGTH;
+use grid::refusals::PADDING;
+use grid::refusals::ROOM;
 ghost use mathlib.Core.Path.{_≡_};
 ghost use mathlib.Core.List.{_++_};
 ghost use Prim.Native.Nat.{_≤_};
@@ -24,10 +27,10 @@ pub fn read_body(bytes: &[u8], count: usize, samples: &mut [u32]) -> Check
     ensures { λ _. ⌜ now (samples .exit) ≡ restRow count (now (bytes .entry)) (now (samples .entry)) ⌝ }
 {
     if bytes.len() != length_of(count) {
-        return grid::refused(12);
+        return grid::refused(LENGTH);
     }
     if !padding_is_clear(bytes, count) {
-        return grid::refused(13);
+        return grid::refused(PADDING);
     }
     let mut row = [0u32; 531];
     unpack(bytes, count, &mut row);
@@ -35,7 +38,7 @@ pub fn read_body(bytes: &[u8], count: usize, samples: &mut [u32]) -> Check
         return Check::Refused(refusal);
     }
     if samples.len() < count {
-        return grid::refused(14);
+        return grid::refused(ROOM);
     }
     copy(&row[..count], samples);
     Check::Fine

@@ -1,4 +1,7 @@
 // The record's header: three bytes that are one number, and the fields in it.
+use grid::refusals::EDITION;
+use grid::refusals::LENGTH;
+use grid::refusals::RESERVED;
 ghost use mathlib.Core.Path.{_≡_};
 ghost use Prim.Native.Nat.{_≤_, _<_};
 ghost use Rattle.grid.specs.Check.{refusal};
@@ -16,14 +19,14 @@ pub fn read_header(bytes: &[u8]) -> RecordRead
     ensures { λ r. ⌜ r ≡ headerAnswer (now (bytes .entry)) ⌝ }
 {
     if bytes.len() < 3 {
-        return refused(12);
+        return refused(LENGTH);
     }
     let number = three(bytes, 0);
     if number / 1048576 != 1 {
-        return refused(10);
+        return refused(EDITION);
     }
     if number % 2 != 0 {
-        return refused(11);
+        return refused(RESERVED);
     }
     let start = 300 + number / 2048 % 128;
     let step = step_of(number / 262144 % 4);

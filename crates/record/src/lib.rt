@@ -1,4 +1,5 @@
 // The packed record: a spectrum's start, step and samples in as few bits as they need.
+use grid::refusals::ROOM;
 ghost use mathlib.Core.Path.{_≡_};
 ghost use lib.ListN.{length};
 ghost use Rattle.grid.specs.Check.{lightCheck};
@@ -70,7 +71,7 @@ fn write_accepted(start: u32, step: u32, samples: &[u32], bytes: &mut [u8]) -> R
     let length = body::length_of(count);
     if bytes.len() < length {
         return RecordWritten::Refused(Refusal {
-            number: 14,
+            number: ROOM,
             place: 0,
         });
     }

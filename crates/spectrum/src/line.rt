@@ -1,5 +1,5 @@
 // T, the straight line through the samples times the step, laid out as a row of 471 places from 360 to 830 nm.
-use crate::walk::walked;
+use crate::walk::walk;
 use crate::walk::wide;
 ghost use mathlib.Core.Path.{_≡_};
 ghost use Prim.Native.Nat.{_+_, _*_, _-_, _/_, _^_, _<_, _≤_};
@@ -38,12 +38,14 @@ pub fn row_from(first: u32, step: u32, part: &[u32]) -> [u64; 471]
     requires { ⌜ Part first step (length (now part)) ⌝ }
     ensures { λ r. ⌜ r ≡ rowOf first step (now (part .entry)) ⌝ }
 {
+    let mut row = unmeasured();
     match step {
-        1 => copied(first, part),
-        2 => walked(first, 2, part),
-        5 => walked(first, 5, part),
-        _ => walked(first, 10, part),
+        1 => copy(first, part, &mut row),
+        2 => walk(first, 2, part, &mut row),
+        5 => walk(first, 5, part, &mut row),
+        _ => walk(first, 10, part, &mut row),
     }
+    row
 }
 
 // The place of a wavelength in the row; 0 where it is below 360.
@@ -58,21 +60,19 @@ pub fn place_of(wavelength: u32) -> usize
 }
 
 // The row before the measured places are laid: the end rule, that T is 0 outside the measured range.
-pub fn unmeasured() -> [u64; 471]
+fn unmeasured() -> [u64; 471]
     ensures { λ r. ⌜ Unmeasured r ⌝ }
 {
     [0u64; 471]
 }
 
 // At step 1 the line is the samples.
-fn copied(first: u32, part: &[u32]) -> [u64; 471]
-    requires { ⌜ Part first 1 (length (now part)) ⌝ }
-    ensures { λ r. ⌜ r ≡ rowOf first 1 (now (part .entry)) ⌝ }
+fn copy(first: u32, part: &[u32], row: &mut [u64; 471])
+    requires { ⌜ Part first 1 (length (now part)) × Unmeasured (now row) ⌝ }
+    ensures { λ _. ⌜ now (row .exit) ≡ rowOf first 1 (now (part .entry)) ⌝ }
 {
-    let mut row = unmeasured();
     let place = place_of(first);
     for i in 0..part.len() {
         row[place + i] = wide(part[i]);
     }
-    row
 }

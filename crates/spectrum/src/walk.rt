@@ -1,27 +1,24 @@
 // The line at a step above 1, walked from sample to sample with no division.
 use crate::line::place_of;
-use crate::line::unmeasured;
 ghost use mathlib.Core.Path.{_≡_};
 ghost use Prim.Native.Nat.{_+_, _*_, _-_, _^_, _<_, _≤_};
 ghost use lib.ListN.{length};
-ghost use Rattle.spectrum.specs.Line.{rowOf, Part};
+ghost use Rattle.spectrum.specs.Line.{rowOf, Part, Unmeasured};
 ghost use Rattle.spectrum.specs.Lay.{LaidTo};
 
 // The first stretch begins at 360 nm, which may be above the first sample; the others begin at a sample.
-pub fn walked(first: u32, step: u32, part: &[u32]) -> [u64; 471]
-    requires { ⌜ Part first step (length (now part)) ⌝ }
-    ensures { λ r. ⌜ r ≡ rowOf first step (now (part .entry)) ⌝ }
+pub fn walk(first: u32, step: u32, part: &[u32], row: &mut [u64; 471])
+    requires { ⌜ Part first step (length (now part)) × Unmeasured (now row) ⌝ }
+    ensures { λ _. ⌜ now (row .exit) ≡ rowOf first step (now (part .entry)) ⌝ }
 {
-    let mut row = unmeasured();
     let last = part.len() - 1;
     let place = place_of(first);
-    stretch(first, step, part, 0, 360 + place as u32 - first, &mut row);
+    stretch(first, step, part, 0, 360 + place as u32 - first, row);
     for i in 1..last {
-        stretch(first, step, part, i, 0, &mut row);
+        stretch(first, step, part, i, 0, row);
     }
     let end = place_of(first + step * last as u32);
     row[end] = between(step, 0, wide(part[last]), 0);
-    row
 }
 
 // The line from so many nanometres above a sample up to the next one.

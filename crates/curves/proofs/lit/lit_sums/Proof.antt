@@ -9,8 +9,12 @@ use borrow.Author.Needs.{needs}
 use Rattle.curves.proofs.lit.lit_sums.Statement.{statement}
 use Rattle.curves.proofs.lit.lit_sums.Tie as tie
 
-powers-of-requires : tie.Need-powers-of-requires
-powers-of-requires c κs = search needs
+-- the test of the observer, before the four tables
+abbrev ten : tie.After-powers-of → tie.Then1
+ten c = c .before .before .before .before .before .before .before
+
+abbrev two : tie.After-powers-of2 → tie.Else1
+two c = c .before .before .before .before .before .before .before
 
 x-bar-10-requires : tie.Need-x-bar-10-requires
 x-bar-10-requires c κs = search needs
@@ -21,14 +25,18 @@ y-bar-10-requires c κs = search needs
 z-bar-10-requires : tie.Need-z-bar-10-requires
 z-bar-10-requires c κs = search needs
 
+powers-of-requires : tie.Need-powers-of-requires
+powers-of-requires c κs = search needs
+
 lit-sums-by-requires : tie.Need-lit-sums-by-requires
 unfolding table
 lit-sums-by-requires c κs =
-    let z = c .before .before .before .before in
-    let under = z .before .before .before .before in
-    let start = under .before in (
-      rw (z .before .before .x-bar-10 .ensures) (halves XBar10),
-      rw (z .before .y-bar-10 .ensures) (halves YBar10),
+    let under = c .before in
+    let z = under .before .before in
+    let y = z .before .before in
+    let start = ten under .before in (
+      rw (y .before .before .x-bar-10 .ensures) (halves XBar10),
+      rw (y .y-bar-10 .ensures) (halves YBar10),
       rw (z .z-bar-10 .ensures) (halves ZBar10),
       rw (under .powers-of .ensures) (power-bound (start .args .illuminant)),
       start .pre,
@@ -43,29 +51,34 @@ y-bar-requires c κs = search needs
 z-bar-requires : tie.Need-z-bar-requires
 z-bar-requires c κs = search needs
 
+powers-of-requires-2 : tie.Need-powers-of-requires-2
+powers-of-requires-2 c κs = search needs
+
 lit-sums-by-requires-2 : tie.Need-lit-sums-by-requires-2
 unfolding table
 lit-sums-by-requires-2 c κs =
-    let z = c .before .before .before .before in
-    let under = z .before .before .before .before in
-    let start = under .before in (
-      rw (z .before .before .x-bar .ensures) (halves XBar),
-      rw (z .before .y-bar .ensures) (halves YBar),
+    let under = c .before in
+    let z = under .before .before in
+    let y = z .before .before in
+    let start = two under .before in (
+      rw (y .before .before .x-bar .ensures) (halves XBar),
+      rw (y .y-bar .ensures) (halves YBar),
       rw (z .z-bar .ensures) (halves ZBar),
-      rw (under .powers-of .ensures) (power-bound (start .args .illuminant)),
+      rw (under .powers-of2 .ensures) (power-bound (start .args .illuminant)),
       start .pre,
     )
 
 returns : tie.Need-returns
 unfolding table
 returns c =
-    let z = c .before .before .before .before .before in
-    let arm = z .before .before .before in
-    let under = arm .before in
-    let start = under .before in
+    let under = c .before .before in
+    let z = under .before .before in
+    let y = z .before .before in
+    let arm = ten under in
+    let start = arm .before in
     let i = start .args .illuminant in
     let row = start .args .row .now in
-    let sums = rw (z .before .before .x-bar-10 .ensures, z .before .y-bar-10 .ensures, z .z-bar-10 .ensures, under .powers-of .ensures) at (c .lit-sums-by .ensures) in
+    let sums = rw (y .before .before .x-bar-10 .ensures, y .y-bar-10 .ensures, z .z-bar-10 .ensures, under .powers-of .ensures) at (c .lit-sums-by .ensures) in
     rw (arm .if1 .taken)
     (record {
       x = sums .x ∙ lit-exact i XBar10 row (start .pre);
@@ -76,32 +89,34 @@ returns c =
 returns-2 : tie.Need-returns-2
 unfolding table
 returns-2 c =
-    let z = c .before .before .before .before .before in
-    let arm = z .before .before .before in
-    let under = arm .before in
-    let start = under .before in
+    let under = c .before .before in
+    let z = under .before .before in
+    let y = z .before .before in
+    let arm = two under in
+    let start = arm .before in
     let i = start .args .illuminant in
     let row = start .args .row .now in
-    let sums = rw (z .before .before .x-bar .ensures, z .before .y-bar .ensures, z .z-bar .ensures, under .powers-of .ensures) at (c .lit-sums-by2 .ensures) in
-    let two = ne-eqb (start .args .observer) 10 (arm .if1 .left) in
+    let sums = rw (y .before .before .x-bar .ensures, y .y-bar .ensures, z .z-bar .ensures, under .powers-of2 .ensures) at (c .lit-sums-by2 .ensures) in
+    let otherwise = ne-eqb (start .args .observer) 10 (arm .if1 .left) in
     record {
-      x = rw two (sums .x ∙ lit-exact i XBar row (start .pre));
-      y = rw two (sums .y ∙ lit-exact i YBar row (start .pre));
-      z = rw two (sums .z ∙ lit-exact i ZBar row (start .pre));
+      x = rw otherwise (sums .x ∙ lit-exact i XBar row (start .pre));
+      y = rw otherwise (sums .y ∙ lit-exact i YBar row (start .pre));
+      z = rw otherwise (sums .z ∙ lit-exact i ZBar row (start .pre));
     }
 
 pub lit-sums-spec : {M : Type 1} → statement M
 lit-sums-spec =
     tie.close
     (tie.spec
-    powers-of-requires
     x-bar-10-requires
     y-bar-10-requires
     z-bar-10-requires
+    powers-of-requires
     lit-sums-by-requires
     x-bar-requires
     y-bar-requires
     z-bar-requires
+    powers-of-requires-2
     lit-sums-by-requires-2
     returns
     returns-2)

@@ -17,47 +17,50 @@ begin c = c .before .before .before
 few : (s : tie.Start) → length (s .args .part .now) ≤ 531
 few s = let p = s .pre .part in let more : 1 * (length (s .args .part .now) - 1) ≤ s .args .step * (length (s .args .part .now) - 1) = mul-le-mul-right _ (p .step-low) in omega arith
 
--- the row laid is the part's
-laid : (c : tie.After-row-from) → c .row-from .result ≡ rowOf (begin (c .before .before) .args .first) (begin (c .before .before) .args .step) (begin (c .before .before) .args .part .now)
-laid c = rw (c .before .before .widen .ensures .first) at (c .row-from .ensures)
-
 widen-requires : tie.Need-widen-requires
 widen-requires c κs = (few (c .before .before), refl)
-
-array-share-prefix-wide : tie.Need-array-share-prefix-wide
-array-share-prefix-wide c = rw (c .widen .ensures .long) (few (begin c))
-
-slice-aggregate-row-from : tie.Need-slice-aggregate-row-from
-slice-aggregate-row-from c = ap length (sym (c .before .widen .ensures .first))
-
-row-from-requires : tie.Need-row-from-requires
-row-from-requires c κs = rw (c .before .widen .ensures .first) (begin (c .before) .pre .part)
 
 illuminant-of-requires : tie.Need-illuminant-of-requires
 illuminant-of-requires c κs = search needs
 
+array-share-prefix-wide : tie.Need-array-share-prefix-wide
+array-share-prefix-wide c = rw (c .before .widen .ensures .long) (few (begin (c .before)))
+
+-- where the row is laid: from the part, widened
+abbrev widened : tie.After-row-from → tie.After-widen
+widened c = c .before .before .before
+
+slice-aggregate-row-from : tie.Need-slice-aggregate-row-from
+slice-aggregate-row-from c = ap length (sym (c .before .before .widen .ensures .first))
+
+row-from-requires : tie.Need-row-from-requires
+row-from-requires c κs = let wide = c .before .before in rw (wide .widen .ensures .first) (begin wide .pre .part)
+
+-- the row laid is the part's
+laid : (c : tie.After-row-from) → c .row-from .result ≡ rowOf (begin (widened c) .args .first) (begin (widened c) .args .step) (begin (widened c) .args .part .now)
+laid c = rw (widened c .widen .ensures .first) at (c .row-from .ensures)
+
 lit-sums-requires : tie.Need-lit-sums-requires
 lit-sums-requires c κs =
-    let row = c .before .before in
-    let s = begin (row .before .before) in
+    let row = c .before in
+    let s = begin (widened row) in
     rw (laid row) (begun-small 10000 (s .args .first) (s .args .step) (s .args .part .now) (s .pre))
 
 returns : tie.Need-returns
 returns c =
-    let under = c .before .before in
-    let row = under .before in
-    let t = begin (row .before .before) .args in
+    let row = c .before .before in
+    let t = begin (widened row) .args in
     panel-sums (t .observer) (t .illuminant) (t .first) (t .step) (t .part .now) (c .lit-sums .result)
-    (rw (under .illuminant-of .ensures, laid row) at (c .lit-sums .ensures))
+    (rw (row .before .before .illuminant-of .ensures, laid row) at (c .lit-sums .ensures))
 
 pub part-sums-spec : {M : Type 1} → statement M
 part-sums-spec =
     tie.close
     (tie.spec
     widen-requires
+    illuminant-of-requires
     array-share-prefix-wide
     slice-aggregate-row-from
     row-from-requires
-    illuminant-of-requires
     lit-sums-requires
     returns)

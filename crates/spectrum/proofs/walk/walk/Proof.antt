@@ -7,8 +7,8 @@ use lib.ListN.{length, getD}
 use Rattle.spectrum.specs.Line.{T}
 use Rattle.spectrum.specs.Lay.{LaidTo}
 use Rattle.spectrum.proofs.Lay.{lay-none, walk-at, lay-more, lay-all}
-use Rattle.spectrum.proofs.walk.walked.Statement.{statement}
-use Rattle.spectrum.proofs.walk.walked.Tie as tie
+use Rattle.spectrum.proofs.walk.walk.Statement.{statement}
+use Rattle.spectrum.proofs.walk.walk.Tie as tie
 
 abbrev Inv-loop : tie.InvT-loop
 Inv-loop first step part row₀ last place i₀ row i = (1 ≤ i) × (i ≤ last) × LaidTo first step part row (first + step * i - 360)
@@ -17,7 +17,7 @@ abbrev μ-loop : tie.MeasureT-loop
 μ-loop first step part row₀ last place i₀ row i = last - i
 
 abbrev begin : tie.After-place-of Inv-loop μ-loop → tie.Start Inv-loop μ-loop
-begin c = c .before .before .before
+begin c = c .before .before
 
 abbrev at-loop : tie.At-loop Inv-loop μ-loop → tie.Start Inv-loop μ-loop
 at-loop c = begin (c .before .before .before)
@@ -25,20 +25,17 @@ at-loop c = begin (c .before .before .before)
 -- a part has samples enough for a stretch, and so few that no place wraps
 enough : (s : tie.Start Inv-loop μ-loop) → 40 ≤ length (s .args .part .now) - 1
 enough s =
-    let p = s .pre in
+    let p = s .pre .0 in
     let most : s .args .step * (length (s .args .part .now) - 1) ≤ 10 * (length (s .args .part .now) - 1) =
     mul-le-mul-right (length (s .args .part .now) - 1) (p .step-high) in
     omega arith
 
 few : (s : tie.Start Inv-loop μ-loop) → length (s .args .part .now) ≤ 831
 few s =
-    let p = s .pre in
+    let p = s .pre .0 in
     let least : 1 * (length (s .args .part .now) - 1) ≤ s .args .step * (length (s .args .part .now) - 1) =
     mul-le-mul-right (length (s .args .part .now) - 1) (p .step-low) in
     omega arith
-
-unmeasured-requires : tie.Need-unmeasured-requires Inv-loop μ-loop
-unmeasured-requires c κs = tt
 
 sub-last : tie.Need-sub-last Inv-loop μ-loop
 sub-last c = omega arith
@@ -60,10 +57,10 @@ stretch-requires c κs =
     let placed = c .before in
     let s = begin placed in
     let t = s .args in
-    let p = s .pre in
+    let p = s .pre .0 in
     let many = enough s in
     let from : t .first + t .step * 0 + (360 + placed .place-of .result - t .first) - 360 ≡ t .first - 360 = omega arith in
-    (p, omega arith, omega arith, omega arith, rw from (lay-none (t .first) (t .step) (t .part .now) (placed .before .unmeasured .result) (p .start-high) (placed .before .unmeasured .ensures)))
+    (p, omega arith, omega arith, omega arith, rw from (lay-none (t .first) (t .step) (t .part .now) (t .row .now) (p .start-high) (s .pre .1)))
 
 loop-holds : tie.Need-loop-holds Inv-loop μ-loop
 loop-holds c = let many = enough (begin (c .before .before)) in (omega arith, omega arith, c .stretch .ensures)
@@ -72,7 +69,7 @@ stretch-requires-2 : tie.Need-stretch-requires-2 Inv-loop μ-loop
 stretch-requires-2 c κs =
     let l = c .before .before .loop in
     let s = at-loop (c .before .before) in
-    let p = s .pre in
+    let p = s .pre .0 in
     let above : s .args .step * 1 ≤ s .args .step * l .i = mul-le-mul-left (s .args .step) (l .inv .0) in
     let from : s .args .first + s .args .step * l .i + 0 - 360 ≡ s .args .first + s .args .step * l .i - 360 = omega arith in
     (p, omega arith, omega arith, omega arith, rw from (l .inv .2))
@@ -113,8 +110,8 @@ between-requires c κs = omega arith
 mul-row : tie.Need-mul-row Inv-loop μ-loop
 mul-row c = omega arith
 
-array-write-row : tie.Need-array-write-row Inv-loop μ-loop
-array-write-row c = omega arith
+element-write-row : tie.Need-element-write-row Inv-loop μ-loop
+element-write-row c = omega arith
 
 returns : tie.Need-returns Inv-loop μ-loop
 returns c =
@@ -125,7 +122,7 @@ returns c =
     let xs = t .part .now in
     let last = length xs - 1 in
     let k = end .place-of2 .result in
-    let p = at-loop (end .before .before) .pre in
+    let p = at-loop (end .before .before) .pre .0 in
     let whole : l .i ≡ last = omega arith in
     let here : c .between .result ≡ T (t .first) (t .step) xs (360 + k) =
     c .between .ensures
@@ -136,13 +133,12 @@ returns c =
     (let e : k ≡ t .first + t .step * l .i - 360 = rw whole (omega arith) in rw e (l .inv .2)) in
     lay-all (t .first) (t .step) xs _ (k + 1) (lay-more (t .first) (t .step) xs (l .row) k (c .between .result) laid (omega arith) here) (omega arith)
 
-pub walked-spec : {M : Type 1} → statement M
-walked-spec =
+pub walk-spec : {M : Type 1} → statement M
+walk-spec =
     tie.close
     (tie.spec
     Inv-loop
     μ-loop
-    unmeasured-requires
     sub-last
     place-of-requires
     cast-stretch
@@ -163,5 +159,5 @@ walked-spec =
     wide-requires
     between-requires
     mul-row
-    array-write-row
+    element-write-row
     returns)

@@ -8,8 +8,8 @@ use lib.ListN.{length, getD}
 use Rattle.spectrum.specs.Line.{T}
 use Rattle.spectrum.specs.Lay.{LaidTo}
 use Rattle.spectrum.proofs.Lay.{lay-none, walk-at, lay-more, lay-all}
-use Rattle.spectrum.proofs.line.copied.Statement.{statement}
-use Rattle.spectrum.proofs.line.copied.Tie as tie
+use Rattle.spectrum.proofs.line.copy.Statement.{statement}
+use Rattle.spectrum.proofs.line.copy.Tie as tie
 
 abbrev Inv-loop : tie.InvT-loop
 Inv-loop first part row₀ place i₀ i-end row i = (i ≤ length part) × LaidTo first 1 part row (place + i)
@@ -17,18 +17,17 @@ Inv-loop first part row₀ place i₀ i-end row i = (i ≤ length part) × LaidT
 abbrev μ-loop : tie.MeasureT-loop
 μ-loop first part row₀ place i₀ i-end row i = length part - i
 
-unmeasured-requires : tie.Need-unmeasured-requires Inv-loop μ-loop
-unmeasured-requires c κs = tt
+abbrev begin : tie.After-place-of Inv-loop μ-loop → tie.Start Inv-loop μ-loop
+begin c = c .before .before
 
 place-of-requires : tie.Need-place-of-requires Inv-loop μ-loop
 place-of-requires c κs = tt
 
 loop-holds : tie.Need-loop-holds Inv-loop μ-loop
 loop-holds c =
-    let s = c .before .before .before in (
+    let s = begin c in (
       omega arith,
-      rw (add-zero, c .place-of .ensures)
-          (lay-none (s .args .first) 1 (s .args .part .now) (c .before .unmeasured .result) (s .pre .start-high) (c .before .unmeasured .ensures)),
+      rw (add-zero, c .place-of .ensures) (lay-none (s .args .first) 1 (s .args .part .now) (s .args .row .now) (s .pre .0 .start-high) (s .pre .1)),
     )
 
 mul-wide : tie.Need-mul-wide Inv-loop μ-loop
@@ -46,8 +45,8 @@ add-row c = omega arith
 mul-row : tie.Need-mul-row Inv-loop μ-loop
 mul-row c = omega arith
 
-array-write-row : tie.Need-array-write-row Inv-loop μ-loop
-array-write-row c = omega arith
+element-write-row : tie.Need-element-write-row Inv-loop μ-loop
+element-write-row c = omega arith
 
 add-i : tie.Need-add-i Inv-loop μ-loop
 add-i c = omega arith
@@ -57,7 +56,7 @@ loop-less c = omega arith
 
 loop-again : tie.Need-loop-again Inv-loop μ-loop
 loop-again c =
-    let s = c .before .before .before .before .before .before .before in
+    let s = begin (c .before .before .before .before) in
     let i = c .before .before .before .loop .i in
     let xs = s .args .part .now in
     let place = c .before .before .before .before .place-of .result in
@@ -71,17 +70,16 @@ loop-again c =
 
 returns : tie.Need-returns Inv-loop μ-loop
 returns c =
-    let s = c .before .before .before .before .before in
+    let s = begin (c .before .before) in
     lay-all (s .args .first) 1 (s .args .part .now) (c .before .loop .row) (c .before .before .place-of .result + c .before .loop .i)
     (c .before .loop .inv .1) (omega arith)
 
-pub copied-spec : {M : Type 1} → statement M
-copied-spec =
+pub copy-spec : {M : Type 1} → statement M
+copy-spec =
     tie.close
     (tie.spec
     Inv-loop
     μ-loop
-    unmeasured-requires
     place-of-requires
     loop-holds
     mul-wide
@@ -89,7 +87,7 @@ copied-spec =
     wide-requires
     add-row
     mul-row
-    array-write-row
+    element-write-row
     add-i
     loop-less
     loop-again

@@ -7,8 +7,8 @@ use Rattle.answers.specs.declared.XyAnswer.{XyAnswer}
 use Rattle.answers.specs.Worked.{readingFrom, xyzFrom, xyFrom}
 use Rattle.readings.proofs.Together.{all-given, scotopic-refused, xyz-refused}
 use borrow.Author.Needs.{needs}
-use Rattle.readings.proofs.report.figures_from.Statement.{statement}
-use Rattle.readings.proofs.report.figures_from.Tie as tie
+use Rattle.readings.proofs.figures.figures_from.Statement.{statement}
+use Rattle.readings.proofs.figures.figures_from.Tie as tie
 
 -- the numbers that the answers are worked from
 abbrev x : tie.Start → ℕ

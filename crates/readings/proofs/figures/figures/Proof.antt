@@ -12,8 +12,8 @@ use Rattle.readings.specs.Colour.{LightSums}
 use Rattle.readings.proofs.Small.{colour-small}
 use Rattle.readings.proofs.Part.{sought, few, begun, weighed-begun, colour-begun}
 use borrow.Author.Needs.{needs}
-use Rattle.readings.proofs.report.figures.Statement.{statement}
-use Rattle.readings.proofs.report.figures.Tie as tie
+use Rattle.readings.proofs.figures.figures.Statement.{statement}
+use Rattle.readings.proofs.figures.figures.Tie as tie
 
 -- the light is accepted in this arm
 fine : (c : tie.After-enum-told) → lightCheck (c .before .before .before .before .args .start) (c .before .before .before .before .args .step) (c .before .before .before .before .args .samples .now) ≡ Fine
