@@ -5,13 +5,14 @@ use native.Mathlib.Omega.{arith}
 use borrow.Author.Tests.{eq-eqb, ne-eqb}
 use lib.ListN.{length, length-append}
 use Rattle.grid.specs.declared.Refusal.{Refusal}
-use Rattle.page.specs.Report.{at, decimal, numbered}
+use Rattle.page.specs.Text.{ascii}
+use Rattle.page.specs.Report.{decimal, numbered}
 use Rattle.page.proofs.Joined.{joined}
 use borrow.Author.Needs.{needs}
 use Rattle.page.proofs.lines.put_refusal.Statement.{statement}
 use Rattle.page.proofs.lines.put_refusal.Tie as tie
 
-placed : (r : Refusal) → r .number ≡ 4 → numbered r ≡ decimal (r .number) ++ (at ++ decimal (r .place))
+placed : (r : Refusal) → r .number ≡ 4 → numbered r ≡ decimal (r .number) ++ (ascii " at " ++ decimal (r .place))
 unfolding numbered
 placed r e = rw (eq-eqb (r .number) 4 e)
 
