@@ -12,12 +12,13 @@ use Rattle.answers.specs.declared.XyAnswer.{XyAnswer}
 use Rattle.readings.specs.declared.report.ReportFigures.{ReportFigures}
 use Rattle.readings.specs.declared.report.FiguresAnswer.{FiguresAnswer}
 use Rattle.page.specs.Text.{ascii}
-use Rattle.page.specs.Report.{decimal, coordinate, line, numbered, colourLines, figureLines, textOf, answerOf, reportOf}
+use Rattle.page.specs.Recorded.{recordedFigures}
+use Rattle.page.specs.Report.{decimal, coordinate, line, numbered, colourLines, figureLines, textOf, reportOf}
 use Rattle.page.specs.Answer.{reportAnswer}
 use Rattle.record.specs.Said.{wrote}
 use Rattle.page.specs.Said.{saidReported}
 use Rattle.page.proofs.Digits.{digits-most, digits-few}
-use Rattle.page.proofs.Small.{Small, SmallXy, answer-small}
+use Rattle.page.proofs.Small.{Small, SmallXy, recorded-small}
 
 line-length : (word said : List ℕ) → length (line word said) ≡ length word + length said + 1
 unfolding line
@@ -68,7 +69,7 @@ text-length (FiguresAnswer.Value f) h = figures-length f (h f refl)
 text-length (FiguresAnswer.Refused r) h = omega (arith, line-length (ascii "refused ") (numbered r), numbered-length r)
 
 pub most : (bytes : List ℕ) → length (reportOf bytes) ≤ 99
-most bytes = text-length (answerOf bytes) (answer-small bytes)
+most bytes = text-length (recordedFigures bytes) (recorded-small bytes)
 
 -- a text of 99 bytes has room for any report
 pub written : (bytes : List ℕ) (room : ℕ) → 99 ≤ room → saidReported (reportAnswer bytes room) ≡ wrote (length (reportOf bytes))

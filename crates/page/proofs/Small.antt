@@ -25,7 +25,7 @@ use Rattle.readings.specs.Readings.{illuminanceOf, photopicOf, scotopicOf, colo
 use Rattle.grid.specs.Check.{lightCheck}
 use Rattle.record.specs.Format.{startOf, stepOf, countOf, samplesOf}
 use Rattle.record.specs.Answer.{recordCheck}
-use Rattle.page.specs.Report.{answerOf}
+use Rattle.page.specs.Recorded.{recordedFigures}
 
 abbrev largest : ℕ
 largest = 4294967295
@@ -113,6 +113,6 @@ accepted : (c : Check) (a : FiguresAnswer) (f : ReportFigures) → unless c Figu
 accepted Fine a f e = e
 accepted (Refused r) a f e = absurd (let z : _≡_ {A = ℕ} 0 1 = cc in omega arith)
 
-pub answer-small : (bytes : List ℕ) (f : ReportFigures) → answerOf bytes ≡ FiguresAnswer.Value f → Small f
-unfolding answerOf
-answer-small bytes f e = figures-small (startOf bytes) (stepOf bytes) (samplesOf (countOf bytes) bytes) f (accepted (recordCheck bytes) _ f e)
+pub recorded-small : (bytes : List ℕ) (f : ReportFigures) → recordedFigures bytes ≡ FiguresAnswer.Value f → Small f
+unfolding recordedFigures
+recorded-small bytes f e = figures-small (startOf bytes) (stepOf bytes) (samplesOf (countOf bytes) bytes) f (accepted (recordCheck bytes) _ f e)

@@ -1,4 +1,5 @@
 -- Definitions of the crate `page`.
+pub mod Recorded
 pub mod Text
 pub mod Report
 pub mod Answer

@@ -5,13 +5,10 @@ use Prim.Native.Char.{code}
 use Prim.Native.Nat.{ℕ, zero, suc, _+_, _/_, _%_}
 use lib.Dec.{ltb, eqb}
 use Rattle.grid.specs.declared.Refusal.{Refusal}
-use Rattle.grid.specs.Check.{unless}
-use Rattle.record.specs.Format.{startOf, stepOf, countOf, samplesOf}
-use Rattle.record.specs.Answer.{recordCheck}
 use Rattle.answers.specs.declared.XyAnswer.{XyAnswer}
 use Rattle.readings.specs.declared.report.ReportFigures.{ReportFigures}
 use Rattle.readings.specs.declared.report.FiguresAnswer.{FiguresAnswer}
-use Rattle.readings.specs.Readings.{figuresOf}
+use Rattle.page.specs.Recorded.{recordedFigures}
 use Rattle.page.specs.Text.{ascii}
 
 abbrev pub newline : List ℕ
@@ -45,7 +42,7 @@ unfoldable pub colourLines : XyAnswer → List ℕ
 colourLines (XyAnswer.Value v) = line (ascii "x ") (coordinate (v .x)) ++ line (ascii "y ") (coordinate (v .y))
 colourLines (XyAnswer.Refused dark) = line (ascii "x ") (ascii "-") ++ line (ascii "y ") (ascii "-")
 
--- the seven lines of an accepted record
+-- the five lines of the readings
 abbrev pub readingLines : ReportFigures → List ℕ
 readingLines f =
     line (ascii "photopic ") (decimal (f .photopic))
@@ -54,6 +51,7 @@ readingLines f =
     ++ line (ascii "Y ") (decimal (f .xyz .y))
     ++ line (ascii "Z ") (decimal (f .xyz .z))
 
+-- the seven lines of an accepted record
 unfoldable pub figureLines : ReportFigures → List ℕ
 figureLines f = readingLines f ++ colourLines (f .xy)
 
@@ -66,11 +64,6 @@ unfoldable pub textOf : FiguresAnswer → List ℕ
 textOf (FiguresAnswer.Value f) = figureLines f
 textOf (FiguresAnswer.Refused r) = line (ascii "refused ") (numbered r)
 
--- the figures of the record's spectrum, or the refusal of the record
-unfoldable pub answerOf : List ℕ → FiguresAnswer
-answerOf bytes =
-    unless (recordCheck bytes) FiguresAnswer.Refused (figuresOf (startOf bytes) (stepOf bytes) (samplesOf (countOf bytes) bytes))
-
 -- the whole page: of a refused record too
 abbrev pub reportOf : List ℕ → List ℕ
-reportOf bytes = textOf (answerOf bytes)
+reportOf bytes = textOf (recordedFigures bytes)

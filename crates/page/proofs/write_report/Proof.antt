@@ -17,19 +17,19 @@ bytes c = c .before .before .before .before .before .args .bytes .now
 
 -- the page has the report at its front
 length-of : (c : tie.After-put-text) → c .put-text .result ≡ length (reportOf (bytes c))
-length-of c = front-end (c .put-text .ensures) ∙ ap (λ a. length (textOf a)) (c .before .answer-of .ensures)
+length-of c = front-end (c .put-text .ensures) ∙ ap (λ a. length (textOf a)) (c .before .recorded-figures .ensures)
 
 text-of : (c : tie.After-put-text) → take (c .put-text .result) (c .put-text .last .0) ≡ reportOf (bytes c)
-text-of c = front-read (c .put-text .ensures) ∙ ap textOf (c .before .answer-of .ensures)
+text-of c = front-read (c .put-text .ensures) ∙ ap textOf (c .before .recorded-figures .ensures)
 
 slice-aggregate-put-text : tie.Need-slice-aggregate-put-text
 slice-aggregate-put-text c = search needs
 
-answer-of-requires : tie.Need-answer-of-requires
-answer-of-requires c κs = search needs
+recorded-figures-requires : tie.Need-recorded-figures-requires
+recorded-figures-requires c κs = search needs
 
 put-text-requires : tie.Need-put-text-requires
-put-text-requires c κs = rw (c .answer-of .ensures) (most (c .before .before .before .before .args .bytes .now))
+put-text-requires c κs = rw (c .recorded-figures .ensures) (most (c .before .before .before .before .args .bytes .now))
 
 returns : tie.Need-returns
 returns c =
@@ -67,7 +67,7 @@ write-report-spec =
     tie.close
     (tie.spec
     slice-aggregate-put-text
-    answer-of-requires
+    recorded-figures-requires
     put-text-requires
     returns
     array-share-prefix-page

@@ -12,12 +12,13 @@ use Rattle.readings.specs.Readings.{illuminanceOf, xyzOf, xyOf}
 use Rattle.record.specs.Bits.{bitsOf, num, pack, cut}
 use Rattle.record.specs.Format.{recordOf, headerOf, fieldsOf, samplesOf, paddingOf}
 use Rattle.record.specs.Answer.{headerCheck, bodyCheck, recordCheck}
-use Rattle.page.specs.Report.{digits, coordinate, line, colourLines, figureLines, textOf, answerOf}
+use Rattle.page.specs.Recorded.{recordedFigures}
+use Rattle.page.specs.Report.{digits, coordinate, line, colourLines, figureLines, textOf}
 use Rattle.page.proofs.promise.example.Statement.{statement}
 use Rattle.page.proofs.promise.example.Tie as tie
 
 returns : tie.Need-returns
-unfolding nearest weighted total xBar yBar zBar vPrime endRule gridCheck limitCheck table lightCheck lineAt T W readingFrom xyzFrom xyFrom illuminanceOf xyzOf xyOf bitsOf num pack cut recordOf headerOf fieldsOf samplesOf paddingOf headerCheck bodyCheck recordCheck digits coordinate line colourLines figureLines textOf answerOf
+unfolding nearest weighted total xBar yBar zBar vPrime endRule gridCheck limitCheck table lightCheck lineAt T W readingFrom xyzFrom xyFrom illuminanceOf xyzOf xyOf bitsOf num pack cut recordOf headerOf fieldsOf samplesOf paddingOf headerCheck bodyCheck recordCheck digits coordinate line colourLines figureLines textOf recordedFigures
 returns c = record { page = refl }
 
 pub example-spec : {M : Type 1} → statement M

@@ -1,5 +1,5 @@
 -- A text ends as its last line does, and is no longer than its figures allow.
-use Rattle.page.specs.Report.{answerOf}
+use Rattle.page.specs.Recorded.{recordedFigures}
 use Rattle.page.proofs.Ends.{text-ends}
 use Rattle.page.proofs.Length.{most, written}
 use Rattle.page.proofs.promise.page.Statement.{statement}
@@ -8,8 +8,8 @@ use Rattle.page.proofs.promise.page.Tie as tie
 returns : tie.Need-returns
 returns c =
     record {
-      some = λ bytes. text-ends (answerOf bytes) .some;
-      ended = λ bytes. text-ends (answerOf bytes) .ended;
+      some = λ bytes. text-ends (recordedFigures bytes) .some;
+      ended = λ bytes. text-ends (recordedFigures bytes) .ended;
       most = most;
       written = written;
     }

@@ -11,11 +11,11 @@ use Rattle.record.specs.declared.RecordRead.the-variants.{Read}
 use Rattle.record.proofs.Reading.{answer-refused}
 use Rattle.record.proofs.Promises.{said, fine, same-spectrum}
 use Rattle.readings.specs.Readings.{figuresOf}
-use Rattle.page.specs.Report.{answerOf}
+use Rattle.page.specs.Recorded.{recordedFigures}
 use Rattle.page.proofs.Room.{count-most, read-whole}
 use borrow.Author.Needs.{needs}
-use Rattle.page.proofs.answer_of.Statement.{statement}
-use Rattle.page.proofs.answer_of.Tie as tie
+use Rattle.page.proofs.recorded_figures.Statement.{statement}
+use Rattle.page.proofs.recorded_figures.Tie as tie
 
 abbrev bytes : tie.After-said → List ℕ
 bytes c = c .before .before .before .before .before .before .args .bytes .now
@@ -59,7 +59,7 @@ enum-known-refusal : tie.Need-enum-known-refusal
 enum-known-refusal c = search needs
 
 returns : tie.Need-returns
-unfolding answerOf
+unfolding recordedFigures
 returns c =
     let read = c .before .before .before .before in
     let told = answer read in
@@ -69,7 +69,7 @@ returns c =
     ∙ same-spectrum (bytes read) lent (head read) told figuresOf)
 
 returns-2 : tie.Need-returns-2
-unfolding answerOf
+unfolding recordedFigures
 returns-2 c =
     let given = c .before .before .before .before .before .before .before .args .bytes .now in
     let told = sym (c .before .before .before .before .read-record .ensures .0) ∙ c .before .refusal .given .1 in
@@ -77,8 +77,8 @@ returns-2 c =
     answer-refused (readCheck given 531) (header (startOf given) (stepOf given) (countOf given)) (c .before .refusal .given .0 .0) told in
     rw (sym (read-whole given) ∙ refused)
 
-pub answer-of-spec : {M : Type 1} → statement M
-answer-of-spec =
+pub recorded-figures-spec : {M : Type 1} → statement M
+recorded-figures-spec =
     tie.close
     (tie.spec
     slice-aggregate-read-record
