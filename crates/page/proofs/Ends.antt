@@ -23,9 +23,9 @@ behind front {text} e =
       ended = ap (λ (k : ℕ). drop k (front ++ text)) place ∙ drop-append-add front text (length text - 1) ∙ e .ended;
     }
 
-line-ends : (word said : List ℕ) → Ends (line word said)
+line-ends : (word shown : List ℕ) → Ends (line word shown)
 unfolding line
-line-ends word said = behind (word ++ said) (record { some = omega arith; ended = refl })
+line-ends word shown = behind (word ++ shown) (record { some = omega arith; ended = refl })
 
 colour-ends : (xy : XyAnswer) → Ends (colourLines xy)
 unfolding colourLines

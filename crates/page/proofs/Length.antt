@@ -20,9 +20,9 @@ use Rattle.page.specs.Said.{saidReported}
 use Rattle.page.proofs.Digits.{digits-most, digits-few}
 use Rattle.page.proofs.Small.{Small, SmallXy, recorded-small}
 
-line-length : (word said : List ℕ) → length (line word said) ≡ length word + length said + 1
+line-length : (word shown : List ℕ) → length (line word shown) ≡ length word + length shown + 1
 unfolding line
-line-length word said = simp length-append
+line-length word shown = simp length-append
 
 number-length : (word : List ℕ) (n : ℕ) → n ≤ 4294967295 → length (line word (decimal n)) ≤ length word + 11
 number-length word n h = omega (arith, line-length word (decimal n), digits-few 9 20 n (omega arith))
