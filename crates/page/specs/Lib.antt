@@ -5,4 +5,4 @@ pub mod Report
 pub mod Answer
 pub mod Said
 pub mod Put
-pub mod Promise
+pub mod Promises

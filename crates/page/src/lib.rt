@@ -8,7 +8,7 @@ use readings::report::FiguresAnswer;
 use record::RecordRead;
 
 mod lines;
-pub mod promise;
+pub mod promises;
 mod put;
 
 // What writing a report gives: the number of bytes written.

@@ -14,12 +14,12 @@ use Rattle.record.specs.Format.{recordOf, headerOf, fieldsOf, samplesOf, paddin
 use Rattle.record.specs.Answer.{headerCheck, bodyCheck, recordCheck}
 use Rattle.page.specs.Recorded.{recordedFigures}
 use Rattle.page.specs.Report.{digits, coordinate, line, colourLines, figureLines, textOf}
-use Rattle.page.proofs.promise.example.Statement.{statement}
-use Rattle.page.proofs.promise.example.Tie as tie
+use Rattle.page.proofs.promises.promise_example.Statement.{statement}
+use Rattle.page.proofs.promises.promise_example.Tie as tie
 
 returns : tie.Need-returns
 unfolding nearest weighted total xBar yBar zBar vPrime endRule gridCheck limitCheck table lightCheck lineAt T W readingFrom xyzFrom xyFrom illuminanceOf xyzOf xyOf bitsOf num pack cut recordOf headerOf fieldsOf samplesOf paddingOf headerCheck bodyCheck recordCheck digits coordinate line colourLines figureLines textOf recordedFigures
 returns c = record { page = refl }
 
-pub example-spec : {M : Type 1} → statement M
-example-spec = tie.close (tie.spec returns)
+pub promise-example-spec : {M : Type 1} → statement M
+promise-example-spec = tie.close (tie.spec returns)

@@ -2,8 +2,8 @@
 use Rattle.page.specs.Recorded.{recordedFigures}
 use Rattle.page.proofs.Ends.{text-ends}
 use Rattle.page.proofs.Length.{most, written}
-use Rattle.page.proofs.promise.page.Statement.{statement}
-use Rattle.page.proofs.promise.page.Tie as tie
+use Rattle.page.proofs.promises.promise_page.Statement.{statement}
+use Rattle.page.proofs.promises.promise_page.Tie as tie
 
 returns : tie.Need-returns
 returns c =
@@ -14,5 +14,5 @@ returns c =
       written = written;
     }
 
-pub page-spec : {M : Type 1} → statement M
-page-spec = tie.close (tie.spec returns)
+pub promise-page-spec : {M : Type 1} → statement M
+promise-page-spec = tie.close (tie.spec returns)
