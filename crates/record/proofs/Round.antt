@@ -3,9 +3,10 @@ use mathlib.Core.Path.{_≡_, refl, sym, ap, ap₂, _∙_}
 use mathlib.Core.Logic.{⊎-elim}
 use mathlib.Core.Bool.{true}
 use mathlib.Core.List.{List, [], _∷_, _++_}
-use Prim.Native.Nat.{ℕ, zero, suc, _+_, _*_, _-_, _%_, _<_}
+use Prim.Native.Nat.{ℕ, zero, suc, _+_, _*_, _-_, _%_, _≤_, _<_}
 use native.Mathlib.Nat.{add-zero}
 use native.Mathlib.Omega.{arith}
+use borrow.Author.Tests.{le-leb}
 use lib.ListN.{length, take, drop, getD, replicate, length-replicate}
 use lib.Seq.{take-at, getD-append-add}
 use Rattle.grid.specs.Check.{isStep}
@@ -14,7 +15,8 @@ use Rattle.grid.proofs.Accepted.{step-cases}
 use Rattle.record.specs.Bits.{pack, cut, bytewise, bitsOfBytes, Bytes}
 use Rattle.record.specs.Format.{headerWidths, bodyWidths, headerFields, bodyFields, codeOf, stepOfCode, lengthOf, recordOf, headerOf, fieldsOf, startOf, stepOf, countOf, samplesOf, paddingOf}
 use Rattle.grid.specs.Check.{lightCheck}
-use Rattle.record.specs.Answer.{recordCheck}
+use Rattle.record.specs.Answer.{recordCheck, writeAnswer, bytesAfter}
+use Rattle.record.specs.Said.{wrote, saidWritten}
 use Rattle.record.proofs.Rows.{Fit, total, total-append, total-replicate, fit-append, fit-row, fit-zeros, fit-cut, packed-bits, length-cut, regroup}
 use Rattle.record.proofs.Fields.{length-header, fields-split, body-split, samples-cut, samples-length, padding-cut, five-halves}
 use Rattle.grid.proofs.Light.{grid-fine, samples-fine, within, on-grid}
@@ -109,6 +111,14 @@ module _ (a s : ℕ) (xs : List ℕ) (fine : lightCheck a s xs ≡ Fine) where
         grid = rw (start-back, step-back, count-back) (grid-fine a s xs fine);
       }
       (rw count-back record { whole = length-record a s xs; padding = padding-back; samples = rw samples-back (samples-fine a s xs fine) })
+
+  pub written :
+      (bytes : List ℕ) → lengthOf (length xs) ≤ length bytes →
+      (saidWritten (writeAnswer a s xs (length bytes)) ≡ wrote (lengthOf (length xs)))
+      × (bytesAfter a s xs bytes ≡ recordOf a s xs ++ drop (lengthOf (length xs)) bytes)
+  written bytes room =
+      let e = le-leb (lengthOf (length xs)) (length bytes) room in
+      (rw (fine, e), rw (fine, e))
 
 -- padding that is 0 where there is some is a row of zeros
 padding-zeros : (o : ℕ) (bits : List ℕ) → o < 2 → getD (cut (replicate o 4) bits) 0 0 ≡ 0 → cut (replicate o 4) bits ≡ replicate o 0

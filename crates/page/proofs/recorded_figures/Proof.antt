@@ -9,7 +9,7 @@ use Rattle.record.specs.Answer.{readAnswer, readCheck, header}
 use Rattle.record.specs.declared.Header.{Header}
 use Rattle.record.specs.declared.RecordRead.the-variants.{Read}
 use Rattle.record.proofs.Reading.{answer-refused}
-use Rattle.record.proofs.Promises.{said, fine, same-spectrum}
+use Rattle.record.proofs.SpectrumRead.{said, fine, same-spectrum}
 use Rattle.readings.specs.Readings.{figuresOf}
 use Rattle.page.specs.Recorded.{recordedFigures}
 use Rattle.page.proofs.Room.{count-most, read-whole}

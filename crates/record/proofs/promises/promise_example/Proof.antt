@@ -4,12 +4,12 @@ use Rattle.grid.specs.Check.{gridCheck, limitCheck}
 use Rattle.grid.specs.Check.{lightCheck}
 use Rattle.record.specs.Bits.{bitsOf, num, pack, cut}
 use Rattle.record.specs.Format.{recordOf}
-use Rattle.record.proofs.promise.example.Statement.{statement}
-use Rattle.record.proofs.promise.example.Tie as tie
+use Rattle.record.proofs.promises.promise_example.Statement.{statement}
+use Rattle.record.proofs.promises.promise_example.Tie as tie
 
 returns : tie.Need-returns
 unfolding lightCheck gridCheck limitCheck recordOf pack cut bitsOf num
 returns c = record { accepted = refl; length = refl; begins = refl }
 
-pub example-spec : {M : Type 1} → statement M
-example-spec = tie.close (tie.spec returns)
+pub promise-example-spec : {M : Type 1} → statement M
+promise-example-spec = tie.close (tie.spec returns)
