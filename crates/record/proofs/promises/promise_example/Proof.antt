@@ -1,4 +1,4 @@
--- The example by computation.
+-- The checks, the packing and the cutting compute on the example's samples.
 use mathlib.Core.Path.{refl}
 use Rattle.grid.specs.Check.{gridCheck, limitCheck}
 use Rattle.grid.specs.Check.{lightCheck}
