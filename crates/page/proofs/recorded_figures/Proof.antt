@@ -17,8 +17,11 @@ use borrow.Author.Needs.{needs}
 use Rattle.page.proofs.recorded_figures.Statement.{statement}
 use Rattle.page.proofs.recorded_figures.Tie as tie
 
+abbrev begin : tie.After-read-record → tie.Start
+begin c = c .before .before .before
+
 abbrev bytes : tie.After-said → List ℕ
-bytes c = c .before .before .before .before .before .before .args .bytes .now
+bytes c = begin (c .before .before .before) .args .bytes .now
 
 abbrev lent : List ℕ
 lent = replicate 531 0
@@ -61,7 +64,8 @@ enum-known-refusal c = search needs
 returns : tie.Need-returns
 unfolding recordedFigures
 returns c =
-    let read = c .before .before .before .before in
+    let row = c .before in
+    let read = row .before .before .before in
     let told = answer read in
     rw (fine (bytes read) lent (head read) told)
     (c .figures .ensures
@@ -71,11 +75,13 @@ returns c =
 returns-2 : tie.Need-returns-2
 unfolding recordedFigures
 returns-2 c =
-    let given = c .before .before .before .before .before .before .before .args .bytes .now in
-    let told = sym (c .before .before .before .before .read-record .ensures .0) ∙ c .before .refusal .given .1 in
-    let refused =
-    answer-refused (readCheck given 531) (header (startOf given) (stepOf given) (countOf given)) (c .before .refusal .given .0 .0) told in
-    rw (sym (read-whole given) ∙ refused)
+    let refused = c .before in
+    let read = refused .before .before .before in
+    let given = begin read .args .bytes .now in
+    let told = sym (read .read-record .ensures .0) ∙ refused .refusal .given .1 in
+    let check =
+    answer-refused (readCheck given 531) (header (startOf given) (stepOf given) (countOf given)) (refused .refusal .given .0 .0) told in
+    rw (sym (read-whole given) ∙ check)
 
 pub recorded-figures-spec : {M : Type 1} → statement M
 recorded-figures-spec =
