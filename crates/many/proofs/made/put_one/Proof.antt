@@ -6,10 +6,11 @@ use borrow.Author.Needs.{needs}
 use Rattle.many.proofs.made.put_one.Statement.{statement}
 use Rattle.many.proofs.made.put_one.Tie as tie
 
-below : (c : tie.After-one-from) → c .before .before .draw .result % c .before .before .before .before .before .args .count < c .before .before .before .before .before .args .count
-below c =
-    let some : 0 < c .before .before .before .before .before .args .count = omega arith in
-    mod-lt _ some
+abbrev begin : tie.After-one-from → tie.Start
+begin c = c .before .before .before .before .before
+
+below : (c : tie.After-one-from) → c .before .before .draw .result % begin c .args .count < begin c .args .count
+below c = mod-lt _ (omega arith)
 
 returns : tie.Need-returns
 returns c = search needs
@@ -27,10 +28,10 @@ one-from-requires : tie.Need-one-from-requires
 one-from-requires c κs = search needs
 
 mul-samples : tie.Need-mul-samples
-mul-samples c = let h = below c in omega arith
+mul-samples c = omega (arith, below c)
 
 element-write-samples : tie.Need-element-write-samples
-element-write-samples c = let h = below c in omega arith
+element-write-samples c = omega (arith, below c)
 
 returns-2 : tie.Need-returns-2
 returns-2 c = search needs
