@@ -1,5 +1,5 @@
 -- No text has more than 99 bytes: a reading has at most 10 digits and a coordinate 6, and a refusal's two numbers at most 20 each.
-use mathlib.Core.Path.{_≡_, refl}
+use mathlib.Core.Path.{_≡_}
 use mathlib.Core.Bool.{Bool, true, false, cond}
 use mathlib.Core.List.{List, [], _++_}
 use Prim.Native.Nat.{ℕ, _+_, _/_, _≤_}
@@ -18,7 +18,7 @@ use Rattle.page.specs.Answer.{reportAnswer}
 use Rattle.record.specs.Said.{wrote}
 use Rattle.page.specs.Said.{saidReported}
 use Rattle.page.proofs.Digits.{digits-most, digits-few}
-use Rattle.page.proofs.Small.{Small, SmallXy, recorded-small}
+use Rattle.page.proofs.Small.{Small, SmallXy, SmallFigures, recorded-small}
 
 line-length : (word shown : List ℕ) → length (line word shown) ≡ length word + length shown + 1
 unfolding line
@@ -45,9 +45,8 @@ numbered-length r =
 colour-length : (xy : XyAnswer) → SmallXy xy → length (colourLines xy) ≤ 20
 unfolding colourLines
 colour-length (XyAnswer.Value v) h =
-    let small = h v refl in
-    let x = coordinate-length (ascii "x ") (v .x) (small .0) in
-    let y = coordinate-length (ascii "y ") (v .y) (small .1) in
+    let x = coordinate-length (ascii "x ") (v .x) (h .0) in
+    let y = coordinate-length (ascii "y ") (v .y) (h .1) in
     simp length-append (omega arith)
 colour-length (XyAnswer.Refused dark) h =
     omega (arith, length-append (line (ascii "x ") (ascii "-")) (line (ascii "y ") (ascii "-")), line-length (ascii "x ") (ascii "-"), line-length (ascii "y ") (ascii "-"))
@@ -63,9 +62,9 @@ figures-length f h =
     let colour = colour-length (f .xy) (h .xy) in
     simp length-append (omega arith)
 
-text-length : (a : FiguresAnswer) → ((f : ReportFigures) → a ≡ FiguresAnswer.Value f → Small f) → length (textOf a) ≤ 99
+text-length : (a : FiguresAnswer) → SmallFigures a → length (textOf a) ≤ 99
 unfolding textOf
-text-length (FiguresAnswer.Value f) h = figures-length f (h f refl)
+text-length (FiguresAnswer.Value f) h = figures-length f h
 text-length (FiguresAnswer.Refused r) h = omega (arith, line-length (ascii "refused ") (numbered r), numbered-length r)
 
 pub most : (bytes : List ℕ) → length (reportOf bytes) ≤ 99
