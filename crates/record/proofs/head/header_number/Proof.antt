@@ -42,7 +42,7 @@ returns c =
     let s = c .before .args .step in
     let n = c .before .args .count in
     let fit = header-fit a s n (c .before .pre .1) (c .before .pre .2) in
-    ap (bitsOf 24) (omega (arith, c .code-of .ensures .0)) ∙ sym (pack-whole headerWidths (headerFields a s n) fit)
+    ap (bitsOf 24) (omega (arith, c .code-of .ensures .0)) ∙ sym (pack-whole fit)
 
 pub header-number-spec : {M : Type 1} → statement M
 header-number-spec =
