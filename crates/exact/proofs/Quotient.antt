@@ -1,5 +1,5 @@
 -- Laws of quotients: one of leading digits is never too large, and a quotient is known from what is left.
-use mathlib.Core.Path.{_≡_, _∙_, sym, ap}
+use mathlib.Core.Path.{_≡_, _∙_, ap}
 use Prim.Native.Nat.{ℕ, _+_, _*_, _/_, _≤_, _<_, min}
 use native.Mathlib.Nat.{div-mul-le-self, mul-le-mul-left, mul-le-mul-right, div-eq-of-lt-le, le-div-iff-mul-le, min-eq-right, div-zero, div-lt-iff-lt-mul}
 use native.Mathlib.Omega.{arith}

@@ -1,8 +1,7 @@
 -- Where numerator and divisor are linear, the nearest quotient of a mixture lies between those of its parts that are not dark.
-use mathlib.Core.Path.{_≡_, ap, ap₂, sym, subst}
+use mathlib.Core.Path.{_≡_, ap, ap₂}
 use mathlib.Core.List.{List, [], _∷_}
 use Prim.Native.Nat.{ℕ, zero, suc, _+_, _*_, _≤_, _<_, min, max}
-use native.Mathlib.Nat.{le-refl}
 use native.Mathlib.Omega.{arith}
 use lib.ListN.{length, replicate}
 use Rattle.mixing.specs.Nearest.{nearest}

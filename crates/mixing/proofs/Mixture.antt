@@ -1,12 +1,12 @@
 -- Laws of mixtures: lengths, places, zeros, and how linear sums are made of linear sums.
 use mathlib.Core.Path.{_≡_, refl, _∙_, sym, ap, ap₂}
 use mathlib.Core.List.{List, [], _∷_}
-use Prim.Native.Nat.{ℕ, zero, suc, _+_, _*_, _-_, _≤_, _<_}
+use Prim.Native.Nat.{ℕ, zero, suc, _+_, _*_, _-_, _≤_}
 use native.Mathlib.Nat.{mul-add, add-zero}
 use native.Mathlib.Omega.{arith}
 use lib.ListN.{length, getD, replicate, length-replicate}
-use Rattle.mixing.specs.Sum.{total, weighted}
-use Rattle.mixing.specs.Mixture.{mix, mixture, Each, Rows, Below, Linear}
+use Rattle.mixing.specs.Sum.{weighted}
+use Rattle.mixing.specs.Mixture.{mix, mixture, Rows, Below, Linear}
 use Rattle.mixing.proofs.Sum.{total-ext, total-add}
 
 pub length-mix : (n : ℕ) (xs ys : List ℕ) → length xs ≡ n → length ys ≡ n → length (mix xs ys) ≡ n

@@ -9,7 +9,7 @@ use borrow.Author.Tests.{leb-true}
 use lib.Dec.{eqb}
 use Rattle.grid.specs.declared.Check.{Check}
 use Rattle.grid.specs.declared.Check.the-variants.{Fine, Refused}
-use Rattle.grid.specs.Check.{unless, refusal}
+use Rattle.grid.specs.Check.{unless, refusal, lightCheck}
 use Rattle.grid.proofs.Accepted.{both}
 use Rattle.mixing.specs.Nearest.{nearest}
 use Rattle.mixing.proofs.Nearest.{nearest-bound}
@@ -20,7 +20,6 @@ use Rattle.answers.specs.Worked.{isFitting, readingFrom, xyzFrom, xyFrom}
 use Rattle.readings.specs.declared.report.ReportFigures.{ReportFigures}
 use Rattle.readings.specs.declared.report.FiguresAnswer.{FiguresAnswer}
 use Rattle.readings.specs.Readings.{illuminanceOf, photopicOf, scotopicOf, colourCheck, xyzOf, xyOf, together, figuresOf}
-use Rattle.grid.specs.Check.{lightCheck}
 use Rattle.record.specs.Format.{startOf, stepOf, countOf, samplesOf}
 use Rattle.record.specs.Answer.{recordCheck}
 use Rattle.page.specs.Recorded.{recordedFigures}

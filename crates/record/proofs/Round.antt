@@ -9,12 +9,11 @@ use native.Mathlib.Omega.{arith}
 use borrow.Author.Tests.{le-leb}
 use lib.ListN.{length, take, drop, getD, replicate, length-replicate}
 use lib.Seq.{take-at, getD-append-add}
-use Rattle.grid.specs.Check.{isStep}
+use Rattle.grid.specs.Check.{isStep, lightCheck}
 use Rattle.grid.specs.declared.Check.the-variants.{Fine}
 use Rattle.grid.proofs.Accepted.{step-cases}
 use Rattle.record.specs.Bits.{pack, cut, bytewise, bitsOfBytes, Bytes}
 use Rattle.record.specs.Format.{headerWidths, bodyWidths, headerFields, bodyFields, codeOf, stepOfCode, lengthOf, recordOf, headerOf, fieldsOf, startOf, stepOf, countOf, samplesOf, paddingOf}
-use Rattle.grid.specs.Check.{lightCheck}
 use Rattle.record.specs.Answer.{recordCheck, writeAnswer, bytesAfter}
 use Rattle.record.specs.Said.{wrote, saidWritten}
 use Rattle.record.proofs.Rows.{Fit, more, total, total-append, total-replicate, fit-append, fit-row, fit-zeros, fit-cut, packed-bits, length-cut, regroup}

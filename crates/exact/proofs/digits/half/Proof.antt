@@ -1,7 +1,7 @@
 -- Long division by 2, digit by digit.
 use Prim.Native.Nat.{_^_}
 use lib.Dec.{lit<}
-use Rattle.exact.specs.Value.{short, long}
+use Rattle.exact.specs.Value.{short}
 use Rattle.exact.proofs.Carry.{halves}
 use borrow.Author.Needs.{needs}
 use Rattle.exact.proofs.digits.half.Statement.{statement}

@@ -1,11 +1,11 @@
 -- The high digits decide, and where they are equal the low ones.
-use Prim.Native.Nat.{_*_, _+_, _^_, _<_, _≤_}
+use Prim.Native.Nat.{_*_, _+_, _^_, _<_}
 use mathlib.Core.Path.{_≡_, _∙_, sym, ap}
 use native.Mathlib.Nat.{le-of-lt}
 use borrow.Author.Tests.{le-leb, lt-leb}
 use lib.Dec.{leb}
 use native.Mathlib.Omega.{arith}
-use Rattle.exact.specs.Value.{short, long}
+use Rattle.exact.specs.Value.{long}
 use Rattle.exact.proofs.Order.{high-decides, low-decides}
 use Rattle.exact.proofs.divide.at_most.Statement.{statement}
 use Rattle.exact.proofs.divide.at_most.Tie as tie

@@ -3,7 +3,7 @@ use mathlib.Core.Path.{_≡_, sym, ap}
 use borrow.Author.Tests.{ne-eqb}
 use lib.Dec.{eqb}
 use native.Mathlib.Omega.{arith}
-use Rattle.exact.specs.Value.{short, long}
+use Rattle.exact.specs.Value.{short}
 use Rattle.exact.proofs.divide.is_zero.Statement.{statement}
 use Rattle.exact.proofs.divide.is_zero.Tie as tie
 

@@ -1,6 +1,6 @@
 -- The leading digits of n hold no more than n, and those of d with one more no less than d.
 use Prim.Native.Nat.{ℕ, _*_, _+_, _/_, _^_, _<_, _≤_}
-use mathlib.Core.Path.{_≡_, sym}
+use mathlib.Core.Path.{_≡_}
 use native.Mathlib.Omega.{arith}
 use Rattle.exact.specs.Value.{short, long}
 use Rattle.exact.proofs.Quotient.{leading}

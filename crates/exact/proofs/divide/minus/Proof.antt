@@ -2,7 +2,7 @@
 use Prim.Native.Nat.{_^_, _<_, _≤_}
 use mathlib.Core.Path.{refl}
 use native.Mathlib.Omega.{arith}
-use Rattle.exact.specs.Value.{short, long}
+use Rattle.exact.specs.Value.{long}
 use Rattle.exact.proofs.Order.{high-le, left-over, difference, difference-borrowed}
 use borrow.Author.Needs.{needs}
 use Rattle.exact.proofs.divide.minus.Statement.{statement}

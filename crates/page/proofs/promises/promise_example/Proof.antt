@@ -2,10 +2,9 @@
 use mathlib.Core.Path.{refl}
 use Rattle.mixing.specs.Nearest.{nearest}
 use Rattle.mixing.specs.Sum.{weighted, total}
-use Rattle.grid.specs.Check.{gridCheck, limitCheck}
+use Rattle.grid.specs.Check.{gridCheck, limitCheck, lightCheck}
 use Rattle.curves.specs.Curves.{table}
 use Rattle.curves.specs.Tables.{xBar, yBar, zBar, vPrime}
-use Rattle.grid.specs.Check.{lightCheck}
 use Rattle.spectrum.specs.Line.{lineAt, endRule, T, W}
 use Rattle.answers.specs.Worked.{readingFrom, xyzFrom, xyFrom}
 use Rattle.readings.specs.Readings.{illuminanceOf, xyzOf, xyOf}

@@ -2,7 +2,6 @@
 use mathlib.Core.Path.{sym, ap, _∙_}
 use native.Mathlib.Omega.{arith}
 use Rattle.record.specs.Bits.{bitsOf}
-use Rattle.record.specs.Format.{headerWidths, headerFields}
 use Rattle.record.proofs.Rows.{pack-whole}
 use Rattle.record.proofs.Packed.{header-fit}
 use borrow.Author.Needs.{needs}

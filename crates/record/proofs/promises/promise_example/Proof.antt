@@ -1,7 +1,6 @@
 -- The checks, the packing and the cutting compute on the example's samples.
 use mathlib.Core.Path.{refl}
-use Rattle.grid.specs.Check.{gridCheck, limitCheck}
-use Rattle.grid.specs.Check.{lightCheck}
+use Rattle.grid.specs.Check.{gridCheck, limitCheck, lightCheck}
 use Rattle.record.specs.Bits.{bitsOf, num, pack, cut}
 use Rattle.record.specs.Format.{recordOf}
 use Rattle.record.proofs.promises.promise_example.Statement.{statement}

@@ -1,5 +1,5 @@
 -- Both records are the record of the spectrum that was read.
-use mathlib.Core.Path.{_≡_, sym, ap, _∙_}
+use mathlib.Core.Path.{sym, ap, _∙_}
 use lib.ListN.{length}
 use Rattle.record.specs.Format.{recordOf}
 use Rattle.record.specs.Answer.{header, readAnswer}
