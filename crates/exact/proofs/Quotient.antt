@@ -6,10 +6,7 @@ use native.Mathlib.Omega.{arith}
 
 -- a of p's fit into n, and b of them hold d: a / b times d is at most n
 pub leading : (p a b n d : ℕ) → a * p ≤ n → d ≤ b * p → a / b * d ≤ n
-leading p a b n d fits holds =
-    let x : a / b * d ≤ a / b * (b * p) = mul-le-mul-left (a / b) holds in
-    let y : a / b * b * p ≤ a * p = mul-le-mul-right p (div-mul-le-self a b) in
-    omega arith
+leading p a b n d fits holds = omega (arith, mul-le-mul-left (a / b) holds, mul-le-mul-right p (div-mul-le-self a b))
 
 module _ (n d limit : ℕ) where
   pub none : d ≡ 0 → min (n / d) limit ≡ 0
