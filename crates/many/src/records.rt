@@ -56,7 +56,7 @@ fn written(length: usize, bytes: &mut [u8], d: u64)
     read(bytes, length, 531);
     let e = draw(d);
     let place = place_from(d as usize, length);
-    bytes[place] = other_byte(bytes[place], e);
+    damage(bytes, place, e);
     let f = draw(e);
     read(bytes, length - e as usize / 255 % 2, room_from(f as usize));
 }
@@ -74,6 +74,13 @@ fn place_from(d: usize, length: usize) -> usize
         return place % length;
     }
     place % 3 % length
+}
+
+// Another byte at a place.
+fn damage(bytes: &mut [u8], place: usize, d: u64)
+    requires { do ⌜ place < (← ⟦bytes.len()⟧) ⌝ }
+{
+    bytes[place] = other_byte(bytes[place], d);
 }
 
 fn other_byte(byte: u8, d: u64) -> u8 {
