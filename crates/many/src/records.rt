@@ -1,5 +1,6 @@
 // What is printed of an input's record: written where there is little room, written whole, read back, and read again damaged.
 use crate::made::draw;
+use crate::made::place_in;
 use crate::shown::also;
 use crate::shown::number;
 use crate::shown::refused;
@@ -71,9 +72,9 @@ fn place_from(d: usize, length: usize) -> usize
     }
     let place = d / 4;
     if d % 4 == 3 {
-        return place % length;
+        return place_in(place, length);
     }
-    place % 3 % length
+    place_in(place % 3, length)
 }
 
 // Another byte at a place.
