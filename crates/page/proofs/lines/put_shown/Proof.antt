@@ -1,4 +1,4 @@
--- What is put is what this kind of line shows.
+-- Each arm puts the text of its own kind, which is what the line then shows.
 use borrow.Author.Needs.{needs}
 use Rattle.page.proofs.lines.put_shown.Statement.{statement}
 use Rattle.page.proofs.lines.put_shown.Tie as tie

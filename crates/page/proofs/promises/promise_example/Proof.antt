@@ -1,4 +1,4 @@
--- The example by computation.
+-- The whole chain computes on the example: samples, packed record, checks, readings, page.
 use mathlib.Core.Path.{refl}
 use Rattle.mixing.specs.Nearest.{nearest}
 use Rattle.mixing.specs.Sum.{weighted, total}
