@@ -37,7 +37,7 @@ same-length-2 c = search needs
 
 returns-2 : tie.Need-returns-2
 unfolding textOf
-returns-2 c = let put = c .before .before .before in rw (put .before .before .before .answer2 .given .1) (c .before .before .put-line .ensures)
+returns-2 c = let ready = c .before .before .before in rw (ready .before .before .before .answer2 .given .1) (c .before .before .put-line .ensures)
 
 pub put-text-spec : {M : Type 1} → statement M
 put-text-spec =
