@@ -18,6 +18,7 @@ use Rattle.record.proofs.body.read_body.Tie as tie
 abbrev begin : tie.After-length-of → tie.Start
 begin c = c .before .before .before
 
+-- a row is unpacked behind the test of the padding
 abbrev padding : tie.After-unpack → tie.After-padding-is-clear
 padding c = c .before .before .before
 
@@ -40,10 +41,10 @@ unpacked-length c = ap length (unpacked c) ∙ samples-length (count c) (bytes c
 whole : (c : tie.Else1) → length (begin (c .before) .args .bytes .now) ≡ lengthOf (begin (c .before) .args .count)
 whole c = c .if1 .left ∙ c .before .length-of .ensures
 
--- what the samples' check gives is what the body's does
 abbrev row : tie.After-check-samples → tie.After-unpack
 row c = c .before .before .before
 
+-- what the samples' check gives is what the body's does
 checked : (c : tie.After-check-samples) → bodyCheck (count (row c)) (bytes (row c)) ≡ c .check-samples .result
 checked c =
     let clear = padding (row c) in
