@@ -5,7 +5,7 @@ use native.Mathlib.Nat.{div-add-mod', mod-lt, mod-eq-of-lt, mul-add-mod-self-rig
 use native.Mathlib.Omega.{arith}
 
 -- two digits below their bases make a number below the product
-pub below-product : (x y a b : ℕ) → x < a → y < b → x * b + y < a * b
+below-product : (x y a b : ℕ) → x < a → y < b → x * b + y < a * b
 below-product x y a b p q = let h : (x + 1) * b ≤ a * b = mul-le-mul-right b (omega arith) in omega arith
 
 -- a digit of zero below two others moves them up
@@ -15,7 +15,7 @@ shift B x y z = omega arith
 module _ (B : ℕ) (pos : 0 < B) where
   -- what passes a digit is carried to the one above it
   pub carry : (x y : ℕ) → (x + y / B) * B + y % B ≡ x * B + y
-  carry x y = let e : y / B * B + y % B ≡ y = div-add-mod' y B in omega arith
+  carry x y = omega (arith, div-add-mod' y B)
 
   -- a product and a sum, digit by digit
   pub times-plus :
@@ -23,20 +23,16 @@ module _ (B : ℕ) (pos : 0 < B) where
       high ≡ x * f + u + middle / B →
       high * (B * B) + (middle % B * B + low % B) ≡ ((x * B + y) * B + z) * f + ((u * B + v) * B + w)
   times-plus x y z f u v w low middle high p q r =
-      let m : middle / B * B + middle % B ≡ middle = div-add-mod' middle B in
-      let l : low / B * B + low % B ≡ low = div-add-mod' low B in
-      let m′ : (middle / B * B + middle % B) * B ≡ (y * f + v + low / B) * B = ap (λ (n : ℕ). n * B) (m ∙ q) in
-      let h : high * (B * B) ≡ (x * f + u + middle / B) * (B * B) = ap (λ (n : ℕ). n * (B * B)) r in
-      omega arith
+      let whole = ap (λ (n : ℕ). n * B) (div-add-mod' middle B ∙ q) in
+      omega (arith, div-add-mod' low B, ap (λ (n : ℕ). n * (B * B)) r)
 
   -- the high digit keeps what is below the base
-  pub drop-top : (x y z : ℕ) → y < B → z < B → (x % B * B + y) * B + z ≡ ((x * B + y) * B + z) % (B * B * B)
+  drop-top : (x y z : ℕ) → y < B → z < B → (x % B * B + y) * B + z ≡ ((x * B + y) * B + z) % (B * B * B)
   drop-top x y z p q =
       let rest : ℕ = (x % B * B + y) * B + z in
       let small : rest < B * B * B =
       below-product (x % B * B + y) z (B * B) B (below-product (x % B) y B B (mod-lt x pos) p) q in
-      let e : x * (B * B) ≡ (x / B * B + x % B) * (B * B) = ap (λ (n : ℕ). n * (B * B)) (sym (div-add-mod' x B)) in
-      let whole : (x * B + y) * B + z ≡ x / B * (B * B * B) + rest = omega arith in
+      let whole : (x * B + y) * B + z ≡ x / B * (B * B * B) + rest = omega (arith, ap (λ (n : ℕ). n * (B * B)) (div-add-mod' x B)) in
       sym (ap (λ (n : ℕ). n % (B * B * B)) whole ∙ mul-add-mod-self-right (x / B) (B * B * B) rest ∙ mod-eq-of-lt small)
 
   -- two numbers that are not reduced, as three digits
@@ -46,10 +42,8 @@ module _ (B : ℕ) (pos : 0 < B) where
       ((x / B + middle / B) % B * B + middle % B) * B + y % B ≡ (x * B + y) % (B * B * B)
   joined x y =
       let middle : ℕ = x % B + y / B in
-      let m : middle / B * B + middle % B ≡ middle = div-add-mod' middle B in
-      let e : x / B * B + x % B ≡ x = div-add-mod' x B in
       drop-top (x / B + middle / B) (middle % B) (y % B) (mod-lt middle pos) (mod-lt y pos)
-      ∙ ap (λ (n : ℕ). (n * B + y % B) % (B * B * B)) (omega arith)
+      ∙ ap (λ (n : ℕ). (n * B + y % B) % (B * B * B)) (omega (arith, div-add-mod' middle B, div-add-mod' x B))
       ∙ ap (λ (n : ℕ). n % (B * B * B)) (carry x y)
 
   -- two digits of twice the width, as three
@@ -59,17 +53,14 @@ module _ (B : ℕ) (pos : 0 < B) where
       ∙ ap (λ (n : ℕ). n % (B * B * B)) (carry (x * B) y ∙ omega arith)
 
   -- long division by k: what a digit leaves goes to the one below it
-  pub divide-digit : (k : ℕ) → 0 < k → (x y : ℕ) → x / k * B + (x % k * B + y) / k ≡ (x * B + y) / k
-  divide-digit k k-pos x y =
-      let e : x * B ≡ (x / k * k + x % k) * B = ap (λ (n : ℕ). n * B) (sym (div-add-mod' x k)) in
-      let whole : x * B + y ≡ k * (x / k * B) + (x % k * B + y) = omega arith in
-      sym (ap (λ (n : ℕ). n / k) whole ∙ mul-add-div k-pos (x / k * B) (x % k * B + y))
+  apart : (k x y : ℕ) → x * B + y ≡ k * (x / k * B) + (x % k * B + y)
+  apart k x y = omega (arith, ap (λ (n : ℕ). n * B) (div-add-mod' x k))
 
-  pub divide-left : (k : ℕ) (x y : ℕ) → (x % k * B + y) % k ≡ (x * B + y) % k
-  divide-left k x y =
-      let e : x * B ≡ (x / k * k + x % k) * B = ap (λ (n : ℕ). n * B) (sym (div-add-mod' x k)) in
-      let whole : x * B + y ≡ k * (x / k * B) + (x % k * B + y) = omega arith in
-      sym (ap (λ (n : ℕ). n % k) whole ∙ mul-add-mod-self-left k (x / k * B) (x % k * B + y))
+  divide-digit : (k : ℕ) → 0 < k → (x y : ℕ) → x / k * B + (x % k * B + y) / k ≡ (x * B + y) / k
+  divide-digit k k-pos x y = sym (ap (λ (n : ℕ). n / k) (apart k x y) ∙ mul-add-div k-pos (x / k * B) (x % k * B + y))
+
+  divide-left : (k : ℕ) (x y : ℕ) → (x % k * B + y) % k ≡ (x * B + y) % k
+  divide-left k x y = sym (ap (λ (n : ℕ). n % k) (apart k x y) ∙ mul-add-mod-self-left k (x / k * B) (x % k * B + y))
 
   pub halves :
       (x y z : ℕ) →

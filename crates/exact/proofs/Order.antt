@@ -22,26 +22,21 @@ low-decides k a b = go (leb a b) refl
 module _ (B x y u v : ℕ) (small : y < B) (order : u * B + v ≤ x * B + y) where
   -- the high digit of the smaller number is no larger
   pub high-le : u ≤ x
-  high-le =
-      let h : u * B < (x + 1) * B = omega arith in
-      let k : u < x + 1 = lt-of-mul-lt-mul-right B h in
-      omega arith
+  high-le = let less : u < x + 1 = lt-of-mul-lt-mul-right B (omega arith) in omega arith
 
   -- and smaller where its low digit is larger
-  pub high-lt : y < v → u < x
-  high-lt l = let h : u * B < x * B = omega arith in lt-of-mul-lt-mul-right B h
+  high-lt : y < v → u < x
+  high-lt l = lt-of-mul-lt-mul-right B (omega arith)
 
   pub left-over : y < v → 1 ≤ x - u
-  left-over l = let h : u < x = high-lt l in omega arith
+  left-over l = omega (arith, high-lt l)
 
   pub difference : v ≤ y → (x - u) * B + (y - v) + (u * B + v) ≡ x * B + y
   difference l =
-      let h : u ≤ x = high-le in
-      let e : (x - u + u) * B ≡ x * B = ap (λ (n : ℕ). n * B) (omega arith) in
+      let e : (x - u + u) * B ≡ x * B = ap (λ (n : ℕ). n * B) (omega (arith, high-le)) in
       omega arith
 
   pub difference-borrowed : (top : ℕ) → top + 1 ≡ B → y < v → v < B → (x - u - 1) * B + (top - v + y + 1) + (u * B + v) ≡ x * B + y
   difference-borrowed top t l s =
-      let h : u < x = high-lt l in
-      let e : (x - u - 1 + u + 1) * B ≡ x * B = ap (λ (n : ℕ). n * B) (omega arith) in
+      let e : (x - u - 1 + u + 1) * B ≡ x * B = ap (λ (n : ℕ). n * B) (omega (arith, high-lt l)) in
       omega arith

@@ -1,15 +1,12 @@
 -- Laws of quotients: one of leading digits is never too large, and a quotient is known from what is left.
-use mathlib.Core.Path.{_≡_, _∙_, sym, ap}
+use mathlib.Core.Path.{_≡_, _∙_, ap}
 use Prim.Native.Nat.{ℕ, _+_, _*_, _/_, _≤_, _<_, min}
 use native.Mathlib.Nat.{div-mul-le-self, mul-le-mul-left, mul-le-mul-right, div-eq-of-lt-le, le-div-iff-mul-le, min-eq-right, div-zero, div-lt-iff-lt-mul}
 use native.Mathlib.Omega.{arith}
 
 -- a of p's fit into n, and b of them hold d: a / b times d is at most n
 pub leading : (p a b n d : ℕ) → a * p ≤ n → d ≤ b * p → a / b * d ≤ n
-leading p a b n d fits holds =
-    let x : a / b * d ≤ a / b * (b * p) = mul-le-mul-left (a / b) holds in
-    let y : a / b * b * p ≤ a * p = mul-le-mul-right p (div-mul-le-self a b) in
-    omega arith
+leading p a b n d fits holds = omega (arith, mul-le-mul-left (a / b) holds, mul-le-mul-right p (div-mul-le-self a b))
 
 module _ (n d limit : ℕ) where
   pub none : d ≡ 0 → min (n / d) limit ≡ 0

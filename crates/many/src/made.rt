@@ -131,12 +131,20 @@ pub fn put_one(mode: u64, state: u64, count: usize, samples: &mut [u32; 532]) ->
         1 | 5 => {
             let p = draw(state);
             let v = draw(p);
-            let place = p as usize % count;
+            let place = place_in(p as usize, count);
             samples[place] = one_from(mode, v);
             v
         }
         _ => state,
     }
+}
+
+// A place below the count.
+pub fn place_in(d: usize, count: usize) -> usize
+    requires { ⌜ 0 < count ⌝ }
+    ensures { λ r. ⌜ r < count ⌝ }
+{
+    d % count
 }
 
 fn one_from(mode: u64, d: u64) -> u32 {

@@ -1,5 +1,6 @@
 // What is printed of an input's record: written where there is little room, written whole, read back, and read again damaged.
 use crate::made::draw;
+use crate::made::place_in;
 use crate::shown::also;
 use crate::shown::number;
 use crate::shown::refused;
@@ -56,7 +57,7 @@ fn written(length: usize, bytes: &mut [u8], d: u64)
     read(bytes, length, 531);
     let e = draw(d);
     let place = place_from(d as usize, length);
-    bytes[place] = other_byte(bytes[place], e);
+    damage(bytes, place, e);
     let f = draw(e);
     read(bytes, length - e as usize / 255 % 2, room_from(f as usize));
 }
@@ -71,9 +72,16 @@ fn place_from(d: usize, length: usize) -> usize
     }
     let place = d / 4;
     if d % 4 == 3 {
-        return place % length;
+        return place_in(place, length);
     }
-    place % 3 % length
+    place_in(place % 3, length)
+}
+
+// Another byte at a place.
+fn damage(bytes: &mut [u8], place: usize, d: u64)
+    requires { do ⌜ place < (← ⟦bytes.len()⟧) ⌝ }
+{
+    bytes[place] = other_byte(bytes[place], d);
 }
 
 fn other_byte(byte: u8, d: u64) -> u8 {

@@ -1,15 +1,14 @@
 -- Where numerator and divisor are linear, the nearest quotient of a mixture lies between those of its parts that are not dark.
-use mathlib.Core.Path.{_≡_, ap, ap₂, sym, subst}
+use mathlib.Core.Path.{_≡_, ap, ap₂}
 use mathlib.Core.List.{List, [], _∷_}
 use Prim.Native.Nat.{ℕ, zero, suc, _+_, _*_, _≤_, _<_, min, max}
-use native.Mathlib.Nat.{le-refl}
 use native.Mathlib.Omega.{arith}
 use lib.ListN.{length, replicate}
 use Rattle.mixing.specs.Nearest.{nearest}
 use Rattle.mixing.specs.Mixture.{mix, mixture, Each, Rows, Linear}
 use Rattle.mixing.specs.Promise.{Between, Coordinate}
 use Rattle.mixing.proofs.Nearest.{le-nearest, nearest-lt}
-use Rattle.mixing.proofs.Mixture.{length-mixture, mix-zeros, linear-zeros}
+use Rattle.mixing.proofs.Mixture.{mix-zeros, linear-zeros, linear-mixture}
 
 -- a is at most the nearest of n / d, as products say it, and so where d is 0
 low : (a n d : ℕ) → (0 < d → a ≤ nearest n d) → a * (2 * d) ≤ 2 * n + d
@@ -28,18 +27,9 @@ high-add :
     (b n d m e : ℕ) → (d ≡ 0 → n ≡ 0) → (e ≡ 0 → m ≡ 0) → High b n d → High b m e → High b (n + m) (d + e)
 unfolding High
 high-add b n zero m zero p q f g pos = absurd (omega arith)
-high-add b n zero m (suc e) p q f g pos =
-    let z : n ≡ 0 = p (omega arith) in
-    let l : 2 * m + suc e < (b + 1) * (2 * suc e) = g (omega arith) in
-    omega arith
-high-add b n (suc d) m zero p q f g pos =
-    let z : m ≡ 0 = q (omega arith) in
-    let l : 2 * n + suc d < (b + 1) * (2 * suc d) = f (omega arith) in
-    omega arith
-high-add b n (suc d) m (suc e) p q f g pos =
-    let k : 2 * n + suc d < (b + 1) * (2 * suc d) = f (omega arith) in
-    let l : 2 * m + suc e < (b + 1) * (2 * suc e) = g (omega arith) in
-    omega arith
+high-add b n zero m (suc e) p q f g pos = omega (arith, p (omega arith), g (omega arith))
+high-add b n (suc d) m zero p q f g pos = omega (arith, q (omega arith), f (omega arith))
+high-add b n (suc d) m (suc e) p q f g pos = omega (arith, f (omega arith), g (omega arith))
 
 module _ (n : ℕ) (N D : List ℕ → ℕ) (num : Linear n N) (den : Linear n D) (dark : (xs : List ℕ) → D xs ≡ 0 → N xs ≡ 0) where
   abbrev coordinate : List ℕ → ℕ
@@ -51,14 +41,9 @@ module _ (n : ℕ) (N D : List ℕ → ℕ) (num : Linear n N) (den : Linear n D
   unfolding mixture
   sum-low a [] r h = let z : D (replicate n 0) ≡ 0 = linear-zeros n D den in low a (N (replicate n 0)) (D (replicate n 0)) (λ p. absurd (omega arith))
   sum-low a (xs ∷ xss) r h =
-      let rest : List ℕ = mixture n xss in
-      let l : length rest ≡ n = length-mixture n xss (r .1) in
-      let one : a * (2 * D xs) ≤ 2 * N xs + D xs = low a (N xs) (D xs) (h .0) in
-      let all : a * (2 * D rest) ≤ 2 * N rest + D rest = sum-low a xss (r .1) (h .1) in
-      let e : N (mix xs rest) ≡ N xs + N rest = num .adds xs rest (r .0) l in
-      let f : D (mix xs rest) ≡ D xs + D rest = den .adds xs rest (r .0) l in
-      let g : a * (2 * D (mix xs rest)) ≡ a * (2 * (D xs + D rest)) = ap (λ (d : ℕ). a * (2 * d)) f in
-      omega arith
+      let f = linear-mixture n D den xs xss r in
+      let g = ap (λ (d : ℕ). a * (2 * d)) f in
+      omega (arith, low a (N xs) (D xs) (h .0), sum-low a xss (r .1) (h .1), linear-mixture n N num xs xss r)
 
   sum-high :
       (b : ℕ) (xss : List (List ℕ)) → Rows n xss → Each (λ xs. 0 < D xs → coordinate xs ≤ b) xss →
@@ -67,8 +52,7 @@ module _ (n : ℕ) (N D : List ℕ → ℕ) (num : Linear n N) (den : Linear n D
   sum-high b [] r h = let z : D (replicate n 0) ≡ 0 = linear-zeros n D den in high b (N (replicate n 0)) (D (replicate n 0)) (λ p. absurd (omega arith))
   sum-high b (xs ∷ xss) r h =
       let rest : List ℕ = mixture n xss in
-      let l : length rest ≡ n = length-mixture n xss (r .1) in
-      rw (num .adds xs rest (r .0) l, den .adds xs rest (r .0) l)
+      rw (linear-mixture n N num xs xss r, linear-mixture n D den xs xss r)
       (high-add b (N xs) (D xs) (N rest) (D rest) (dark xs) (dark rest) (high b (N xs) (D xs) (h .0)) (sum-high b xss (r .1) (h .1)))
 
   least :
@@ -103,12 +87,10 @@ module _ (n : ℕ) (N D : List ℕ → ℕ) (num : Linear n N) (den : Linear n D
       (xs ys : List ℕ) → length xs ≡ n → length ys ≡ n → D xs ≡ 0 → 0 < D ys →
       (coordinate (mix xs ys) ≡ coordinate ys) × (coordinate (mix ys xs) ≡ coordinate ys)
   one-dark xs ys p q z pos =
-      let y : N xs ≡ 0 = dark xs z in
-      let a : N (mix xs ys) ≡ N xs + N ys = num .adds xs ys p q in
-      let b : D (mix xs ys) ≡ D xs + D ys = den .adds xs ys p q in
-      let c : N (mix ys xs) ≡ N ys + N xs = num .adds ys xs q p in
-      let d : D (mix ys xs) ≡ D ys + D xs = den .adds ys xs q p in
-      (ap₂ nearest (omega arith) (omega arith), ap₂ nearest (omega arith) (omega arith))
+      let none = dark xs z in (
+        ap₂ nearest (omega (arith, num .adds xs ys p q)) (omega (arith, den .adds xs ys p q)),
+        ap₂ nearest (omega (arith, num .adds ys xs q p)) (omega (arith, den .adds ys xs q p)),
+      )
 
   pub between : Coordinate n D coordinate
   between = record { least = least; greatest = greatest; two = two; one-dark = one-dark }

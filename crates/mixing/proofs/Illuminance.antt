@@ -1,7 +1,7 @@
 -- Where the numerator is linear and the divisor fixed, the nearest quotient keeps to half a unit a row, and to the order.
 use mathlib.Core.Path.{_≡_, ap}
 use mathlib.Core.List.{List, [], _∷_, map}
-use Prim.Native.Nat.{ℕ, suc, _+_, _*_, _/_, _≤_, _<_}
+use Prim.Native.Nat.{ℕ, _+_, _*_, _/_, _≤_, _<_}
 use native.Mathlib.Nat.{le-refl, lt-of-mul-lt-mul-right}
 use native.Mathlib.Omega.{arith}
 use lib.ListN.{length, replicate}
@@ -10,7 +10,7 @@ use Rattle.mixing.specs.Sum.{sumOf}
 use Rattle.mixing.specs.Mixture.{mix, mixture, Rows, Linear}
 use Rattle.mixing.specs.Promise.{Within, Illuminance}
 use Rattle.mixing.proofs.Nearest.{le-nearest, nearest-lt}
-use Rattle.mixing.proofs.Mixture.{length-mixture, mix-zeros, linear-order, linear-zeros}
+use Rattle.mixing.proofs.Mixture.{mix-zeros, linear-order, linear-zeros, linear-mixture}
 
 module _ (n d : ℕ) (F : List ℕ → ℕ) (lin : Linear n F) (pos : 0 < d) where
   abbrev reading : List ℕ → ℕ
@@ -27,24 +27,14 @@ module _ (n d : ℕ) (F : List ℕ → ℕ) (lin : Linear n F) (pos : 0 < d) whe
   pub sum-high : (xss : List (List ℕ)) → Rows n xss → sumOf (map reading xss) * (2 * d) ≤ 2 * F (mixture n xss) + length xss * d
   unfolding sumOf mixture
   sum-high [] r = omega arith
-  sum-high (xs ∷ xss) r =
-      let a : reading xs * (2 * d) ≤ 2 * F xs + d = reading-high xs in
-      let b : sumOf (map reading xss) * (2 * d) ≤ 2 * F (mixture n xss) + length xss * d = sum-high xss (r .1) in
-      let e : F (mix xs (mixture n xss)) ≡ F xs + F (mixture n xss) =
-      lin .adds xs (mixture n xss) (r .0) (length-mixture n xss (r .1)) in
-      omega arith
+  sum-high (xs ∷ xss) r = omega (arith, reading-high xs, sum-high xss (r .1), linear-mixture n F lin xs xss r)
 
   pub sum-low :
       (xss : List (List ℕ)) → Rows n xss →
       2 * F (mixture n xss) + length xss ≤ sumOf (map reading xss) * (2 * d) + length xss * d
   unfolding sumOf mixture
-  sum-low [] r = let z : F (replicate n 0) ≡ 0 = linear-zeros n F lin in omega arith
-  sum-low (xs ∷ xss) r =
-      let a : 2 * F xs + d < (reading xs + 1) * (2 * d) = reading-low xs in
-      let b : 2 * F (mixture n xss) + length xss ≤ sumOf (map reading xss) * (2 * d) + length xss * d = sum-low xss (r .1) in
-      let e : F (mix xs (mixture n xss)) ≡ F xs + F (mixture n xss) =
-      lin .adds xs (mixture n xss) (r .0) (length-mixture n xss (r .1)) in
-      omega arith
+  sum-low [] r = omega (arith, linear-zeros n F lin)
+  sum-low (xs ∷ xss) r = omega (arith, reading-low xs, sum-low xss (r .1), linear-mixture n F lin xs xss r)
 
   many :
       (xs : List ℕ) (xss : List (List ℕ)) → Rows n (xs ∷ xss) →
@@ -54,12 +44,8 @@ module _ (n d : ℕ) (F : List ℕ → ℕ) (lin : Linear n F) (pos : 0 < d) whe
       let q : ℕ = reading (mixture n all) in
       let s : ℕ = sumOf (map reading all) in
       let k : ℕ = length all in
-      let q-high : q * (2 * d) ≤ 2 * F (mixture n all) + d = reading-high (mixture n all) in
-      let q-low : 2 * F (mixture n all) + d < (q + 1) * (2 * d) = reading-low (mixture n all) in
-      let s-high : s * (2 * d) ≤ 2 * F (mixture n all) + k * d = sum-high all r in
-      let s-low : 2 * F (mixture n all) + k ≤ s * (2 * d) + k * d = sum-low all r in
-      let above : 2 * q < 2 * s + k + 1 = lt-of-mul-lt-mul-right d (omega arith) in
-      let below : 2 * s < 2 * q + k + 1 = lt-of-mul-lt-mul-right d (omega arith) in
+      let above : 2 * q < 2 * s + k + 1 = lt-of-mul-lt-mul-right d (omega (arith, reading-high (mixture n all), sum-low all r)) in
+      let below : 2 * s < 2 * q + k + 1 = lt-of-mul-lt-mul-right d (omega (arith, reading-low (mixture n all), sum-high all r)) in
       record { above = omega arith; below = omega arith }
 
   two : (xs ys : List ℕ) → length xs ≡ n → length ys ≡ n → Within 1 (reading (mix xs ys)) (reading xs + reading ys)
@@ -74,8 +60,5 @@ module _ (n d : ℕ) (F : List ℕ → ℕ) (lin : Linear n F) (pos : 0 < d) whe
   illuminance = record {
     many = many;
     two = two;
-    order = λ xs ys p q b.
-        let high : reading xs * (2 * d) ≤ 2 * F xs + d = reading-high xs in
-        let less : F xs ≤ F ys = linear-order n F lin xs ys p q b in
-        le-nearest (F ys) d pos (reading xs) .1 (omega arith);
+    order = λ xs ys p q b. le-nearest (F ys) d pos (reading xs) .1 (omega (arith, reading-high xs, linear-order n F lin xs ys p q b));
   }

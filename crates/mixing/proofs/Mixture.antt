@@ -1,12 +1,12 @@
 -- Laws of mixtures: lengths, places, zeros, and how linear sums are made of linear sums.
 use mathlib.Core.Path.{_≡_, refl, _∙_, sym, ap, ap₂}
 use mathlib.Core.List.{List, [], _∷_}
-use Prim.Native.Nat.{ℕ, zero, suc, _+_, _*_, _-_, _≤_, _<_}
+use Prim.Native.Nat.{ℕ, zero, suc, _+_, _*_, _-_, _≤_}
 use native.Mathlib.Nat.{mul-add, add-zero}
 use native.Mathlib.Omega.{arith}
 use lib.ListN.{length, getD, replicate, length-replicate}
-use Rattle.mixing.specs.Sum.{total, weighted}
-use Rattle.mixing.specs.Mixture.{mix, mixture, Each, Rows, Below, Linear}
+use Rattle.mixing.specs.Sum.{weighted}
+use Rattle.mixing.specs.Mixture.{mix, mixture, Rows, Below, Linear}
 use Rattle.mixing.proofs.Sum.{total-ext, total-add}
 
 pub length-mix : (n : ℕ) (xs ys : List ℕ) → length xs ≡ n → length ys ≡ n → length (mix xs ys) ≡ n
@@ -64,26 +64,24 @@ module _ (n : ℕ) where
   pub linear-order :
       (F : List ℕ → ℕ) → Linear n F → (xs ys : List ℕ) → length xs ≡ n → length ys ≡ n → Below xs ys → F xs ≤ F ys
   linear-order F lin xs ys p q b =
-      let rest : List ℕ = left xs ys in
-      let e : F (mix xs rest) ≡ F xs + F rest = lin .adds xs rest p (length-left xs ys (p ∙ sym q) ∙ p) in
-      let same : F (mix xs rest) ≡ F ys = ap F (mix-left xs ys (p ∙ sym q) b) in
-      omega arith
+      let same = p ∙ sym q in
+      omega (arith, lin .adds xs (left xs ys) p (length-left xs ys same ∙ p), ap F (mix-left xs ys same b))
 
   pub linear-zeros : (F : List ℕ → ℕ) → Linear n F → F (replicate n 0) ≡ 0
   linear-zeros F lin =
       let z : List ℕ = replicate n 0 in
       let l : length z ≡ n = length-replicate n 0 in
-      let e : F (mix z z) ≡ F z + F z = lin .adds z z l l in
-      let same : F (mix z z) ≡ F z = ap F (mix-zeros n z l) in
-      omega arith
+      omega (arith, lin .adds z z l l, ap F (mix-zeros n z l))
+
+  -- a row's part in the mixture, and the others'
+  pub linear-mixture :
+      (F : List ℕ → ℕ) → Linear n F → (xs : List ℕ) (xss : List (List ℕ)) → Rows n (xs ∷ xss) →
+      F (mixture n (xs ∷ xss)) ≡ F xs + F (mixture n xss)
+  unfolding mixture
+  linear-mixture F lin xs xss r = lin .adds xs (mixture n xss) (r .0) (length-mixture n xss (r .1))
 
   pub linear-plus : (F G : List ℕ → ℕ) → Linear n F → Linear n G → Linear n (λ xs. F xs + G xs)
-  linear-plus F G f g = record {
-    adds = λ xs ys p q.
-        let a : F (mix xs ys) ≡ F xs + F ys = f .adds xs ys p q in
-        let b : G (mix xs ys) ≡ G xs + G ys = g .adds xs ys p q in
-        omega arith;
-  }
+  linear-plus F G f g = record { adds = λ xs ys p q. omega (arith, f .adds xs ys p q, g .adds xs ys p q) }
 
   pub linear-times : (c : ℕ) (F : List ℕ → ℕ) → Linear n F → Linear n (λ xs. c * F xs)
   linear-times c F f = record {

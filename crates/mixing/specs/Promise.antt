@@ -1,6 +1,6 @@
 -- What is promised of mixed light, for any weights and any line.
 use mathlib.Core.Path.{_≡_}
-use mathlib.Core.List.{List, [], _∷_, map}
+use mathlib.Core.List.{List, _∷_, map}
 use Prim.Native.Nat.{ℕ, _+_, _*_, _/_, _≤_, _<_, min, max}
 use lib.ListN.{length}
 use Rattle.mixing.specs.Nearest.{nearest}

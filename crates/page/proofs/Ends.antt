@@ -7,14 +7,15 @@ use lib.ListN.{length, drop, length-append}
 use lib.Seq.{drop-append-add}
 use Rattle.answers.specs.declared.XyAnswer.{XyAnswer}
 use Rattle.readings.specs.declared.figures.FiguresAnswer.{FiguresAnswer}
-use Rattle.page.specs.Report.{newline, line, dash, smallX, smallY, coordinate, refused, numbered, colourLines, readingLines, figureLines, textOf}
+use Rattle.page.specs.Text.{ascii}
+use Rattle.page.specs.Report.{newline, line, coordinate, numbered, colourLines, readingLines, figureLines, textOf}
 
 pub record Ends (text : List ℕ) : Type 0 where
   pub some : 1 ≤ length text
   pub ended : drop (length text - 1) text ≡ newline
 
-behind : (front text : List ℕ) → Ends text → Ends (front ++ text)
-behind front text e =
+behind : (front : List ℕ) {text : List ℕ} → Ends text → Ends (front ++ text)
+behind front {text} e =
     let long = length-append front text in
     let place : length (front ++ text) - 1 ≡ length front + (length text - 1) = omega (arith, e .some) in
     record {
@@ -22,16 +23,16 @@ behind front text e =
       ended = ap (λ (k : ℕ). drop k (front ++ text)) place ∙ drop-append-add front text (length text - 1) ∙ e .ended;
     }
 
-line-ends : (word said : List ℕ) → Ends (line word said)
+line-ends : (word shown : List ℕ) → Ends (line word shown)
 unfolding line
-line-ends word said = behind (word ++ said) newline (record { some = omega arith; ended = refl })
+line-ends word shown = behind (word ++ shown) (record { some = omega arith; ended = refl })
 
 colour-ends : (xy : XyAnswer) → Ends (colourLines xy)
 unfolding colourLines
-colour-ends (XyAnswer.Value v) = behind (line smallX (coordinate (v .x))) (line smallY (coordinate (v .y))) (line-ends smallY (coordinate (v .y)))
-colour-ends (XyAnswer.Refused dark) = behind (line smallX dash) (line smallY dash) (line-ends smallY dash)
+colour-ends (XyAnswer.Value v) = behind (line (ascii "x ") (coordinate (v .x))) (line-ends (ascii "y ") (coordinate (v .y)))
+colour-ends (XyAnswer.Refused dark) = behind (line (ascii "x ") (ascii "-")) (line-ends (ascii "y ") (ascii "-"))
 
 pub text-ends : (answer : FiguresAnswer) → Ends (textOf answer)
 unfolding textOf figureLines
-text-ends (FiguresAnswer.Value f) = behind (readingLines f) (colourLines (f .xy)) (colour-ends (f .xy))
-text-ends (FiguresAnswer.Refused r) = line-ends refused (numbered r)
+text-ends (FiguresAnswer.Value f) = behind (readingLines f) (colour-ends (f .xy))
+text-ends (FiguresAnswer.Refused r) = line-ends (ascii "refused ") (numbered r)

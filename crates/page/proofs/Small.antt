@@ -9,12 +9,10 @@ use borrow.Author.Tests.{leb-true}
 use lib.Dec.{eqb}
 use Rattle.grid.specs.declared.Check.{Check}
 use Rattle.grid.specs.declared.Check.the-variants.{Fine, Refused}
-use Rattle.grid.specs.Check.{unless, refusal}
+use Rattle.grid.specs.Check.{unless, refusal, lightCheck}
 use Rattle.grid.proofs.Accepted.{both}
 use Rattle.mixing.specs.Nearest.{nearest}
 use Rattle.mixing.proofs.Nearest.{nearest-bound}
-use Rattle.answers.specs.declared.Xyz.{Xyz}
-use Rattle.answers.specs.declared.Xy.{Xy}
 use Rattle.answers.specs.declared.Reading.{Reading}
 use Rattle.answers.specs.declared.XyzAnswer.{XyzAnswer}
 use Rattle.answers.specs.declared.XyAnswer.{XyAnswer}
@@ -22,97 +20,87 @@ use Rattle.answers.specs.Worked.{isFitting, readingFrom, xyzFrom, xyFrom}
 use Rattle.readings.specs.declared.figures.ReportFigures.{ReportFigures}
 use Rattle.readings.specs.declared.figures.FiguresAnswer.{FiguresAnswer}
 use Rattle.readings.specs.Readings.{illuminanceOf, photopicOf, scotopicOf, colourCheck, xyzOf, xyOf, together, figuresOf}
-use Rattle.grid.specs.Check.{lightCheck}
 use Rattle.record.specs.Format.{startOf, stepOf, countOf, samplesOf}
 use Rattle.record.specs.Answer.{recordCheck}
-use Rattle.page.specs.Report.{answerOf}
+use Rattle.page.specs.Recorded.{recordedFigures}
 
 abbrev largest : ℕ
 largest = 4294967295
 
 -- each kind of answer, where it gives values
-abbrev pub SmallXyz : Xyz → Type 0
-SmallXyz v = (v .x ≤ largest) × (v .y ≤ largest) × (v .z ≤ largest)
+abbrev SmallReading : Reading → Type 0
+SmallReading (Reading.Value v) = v ≤ largest
+SmallReading (Reading.Refused r) = Unit
+
+abbrev SmallXyz : XyzAnswer → Type 0
+SmallXyz (XyzAnswer.Value v) = (v .x ≤ largest) × (v .y ≤ largest) × (v .z ≤ largest)
+SmallXyz (XyzAnswer.Refused r) = Unit
 
 abbrev pub SmallXy : XyAnswer → Type 0
-SmallXy a = (v : Xy) → a ≡ XyAnswer.Value v → (v .x ≤ 100000) × (v .y ≤ 100000)
+SmallXy (XyAnswer.Value v) = (v .x ≤ 100000) × (v .y ≤ 100000)
+SmallXy (XyAnswer.Refused r) = Unit
 
 pub record Small (f : ReportFigures) : Type 0 where
   pub photopic : f .photopic ≤ largest
   pub scotopic : f .scotopic ≤ largest
-  pub xyz : SmallXyz (f .xyz)
+  pub xyz : SmallXyz (XyzAnswer.Value (f .xyz))
   pub xy : SmallXy (f .xy)
 
-reading-small : (c : Check) (n d v : ℕ) → unless c Reading.Refused (readingFrom n d) ≡ Reading.Value v → v ≤ largest
-unfolding readingFrom
-reading-small (Refused r) n d v e = absurd (let z : _≡_ {A = ℕ} 0 1 = cc in omega arith)
-reading-small Fine n d v e = go (isFitting (nearest n d)) refl e
-  where
-    go : (b : Bool) → isFitting (nearest n d) ≡ b → cond b (Reading.Value (nearest n d)) (Reading.Refused (refusal 15 0)) ≡ Reading.Value v → v ≤ largest
-    go true fits e = let same : nearest n d ≡ v = cc in omega (arith, leb-true (nearest n d) largest fits)
-    go false fits e = absurd (let z : _≡_ {A = ℕ} 0 1 = cc in omega arith)
+abbrev pub SmallFigures : FiguresAnswer → Type 0
+SmallFigures (FiguresAnswer.Value f) = Small f
+SmallFigures (FiguresAnswer.Refused r) = Unit
 
-xyz-small : (c : Check) (x y z d : ℕ) (v : Xyz) → unless c XyzAnswer.Refused (xyzFrom x y z d) ≡ XyzAnswer.Value v → SmallXyz v
+reading-small : (c : Check) (n d : ℕ) → SmallReading (unless c Reading.Refused (readingFrom n d))
+unfolding readingFrom
+reading-small (Refused r) n d = tt
+reading-small Fine n d = go (isFitting (nearest n d)) refl
+  where
+    go : (b : Bool) → isFitting (nearest n d) ≡ b → SmallReading (cond b (Reading.Value (nearest n d)) (Reading.Refused (refusal 15 0)))
+    go true fits = leb-true (nearest n d) largest fits
+    go false fits = tt
+
+xyz-small : (c : Check) (x y z d : ℕ) → SmallXyz (unless c XyzAnswer.Refused (xyzFrom x y z d))
 unfolding xyzFrom
-xyz-small (Refused r) x y z d v e = absurd (let z : _≡_ {A = ℕ} 0 1 = cc in omega arith)
-xyz-small Fine x y z d v e = go (isFitting (nearest x d) && isFitting (nearest y d) && isFitting (nearest z d)) refl e
+xyz-small (Refused r) x y z d = tt
+xyz-small Fine x y z d = go (isFitting (nearest x d) && isFitting (nearest y d) && isFitting (nearest z d)) refl
   where
     go :
         (b : Bool) → (isFitting (nearest x d) && isFitting (nearest y d) && isFitting (nearest z d)) ≡ b →
-        cond b (XyzAnswer.Value (record { x = nearest x d; y = nearest y d; z = nearest z d })) (XyzAnswer.Refused (refusal 15 0))
-        ≡ XyzAnswer.Value v → SmallXyz v
-    go true fits e =
-        let w : Xyz = record { x = nearest x d; y = nearest y d; z = nearest z d } in
-        let same : w ≡ v = cc in
+        SmallXyz (cond b (XyzAnswer.Value (record { x = nearest x d; y = nearest y d; z = nearest z d })) (XyzAnswer.Refused (refusal 15 0)))
+    go true fits =
         let two = both (isFitting (nearest x d) && isFitting (nearest y d)) (isFitting (nearest z d)) fits in
         let one = both (isFitting (nearest x d)) (isFitting (nearest y d)) (two .0) in
-        rw (← same)
         (leb-true (nearest x d) largest (one .0), leb-true (nearest y d) largest (one .1), leb-true (nearest z d) largest (two .1))
-    go false fits e = absurd (let z : _≡_ {A = ℕ} 0 1 = cc in omega arith)
+    go false fits = tt
 
 xy-small : (c : Check) (x y z : ℕ) → SmallXy (unless c XyAnswer.Refused (xyFrom x y z))
 unfolding xyFrom
-xy-small (Refused r) x y z v e = absurd (let z : _≡_ {A = ℕ} 0 1 = cc in omega arith)
-xy-small Fine x y z v e = go (eqb (x + y + z) 0) e
+xy-small (Refused r) x y z = tt
+xy-small Fine x y z = go (eqb (x + y + z) 0)
   where
     go :
         (b : Bool) →
-        cond b (XyAnswer.Refused (refusal 9 0)) (XyAnswer.Value (record { x = nearest (100000 * x) (x + y + z); y = nearest (100000 * y) (x + y + z) }))
-        ≡ XyAnswer.Value v → (v .x ≤ 100000) × (v .y ≤ 100000)
-    go true e = absurd (let z : _≡_ {A = ℕ} 0 1 = cc in omega arith)
-    go false e =
-        let w : Xy = record { x = nearest (100000 * x) (x + y + z); y = nearest (100000 * y) (x + y + z) } in
-        let same : w ≡ v = cc in
-        rw (← same) (
-          nearest-bound 100000 (100000 * x) (x + y + z) (mul-le-mul-left 100000 (omega arith)),
-          nearest-bound 100000 (100000 * y) (x + y + z) (mul-le-mul-left 100000 (omega arith)),
-        )
+        SmallXy (cond b (XyAnswer.Refused (refusal 9 0)) (XyAnswer.Value (record { x = nearest (100000 * x) (x + y + z); y = nearest (100000 * y) (x + y + z) })))
+    go true = tt
+    go false = (
+      nearest-bound 100000 (100000 * x) (x + y + z) (mul-le-mul-left 100000 (omega arith)),
+      nearest-bound 100000 (100000 * y) (x + y + z) (mul-le-mul-left 100000 (omega arith)),
+    )
 
--- four answers that are figures are each given
-together-given :
-    (p q : Reading) (v : XyzAnswer) (xy : XyAnswer) (f : ReportFigures) → together p q v xy ≡ FiguresAnswer.Value f →
-    (p ≡ Reading.Value (f .photopic)) × (q ≡ Reading.Value (f .scotopic)) × (v ≡ XyzAnswer.Value (f .xyz)) × (xy ≡ f .xy)
-together-given (Reading.Value p) (Reading.Value q) (XyzAnswer.Value v) xy f e = (cc, cc, cc, cc)
-together-given (Reading.Refused r) q v xy f e = absurd (let z : _≡_ {A = ℕ} 0 1 = cc in omega arith)
-together-given (Reading.Value p) (Reading.Refused r) v xy f e = absurd (let z : _≡_ {A = ℕ} 0 1 = cc in omega arith)
-together-given (Reading.Value p) (Reading.Value q) (XyzAnswer.Refused r) xy f e = absurd (let z : _≡_ {A = ℕ} 0 1 = cc in omega arith)
+together-small :
+    (p q : Reading) (v : XyzAnswer) (xy : XyAnswer) → SmallReading p → SmallReading q → SmallXyz v → SmallXy xy → SmallFigures (together p q v xy)
+together-small (Reading.Value p) (Reading.Value q) (XyzAnswer.Value v) xy a b c d = record { photopic = a; scotopic = b; xyz = c; xy = d }
+together-small (Reading.Refused r) q v xy a b c d = tt
+together-small (Reading.Value p) (Reading.Refused r) v xy a b c d = tt
+together-small (Reading.Value p) (Reading.Value q) (XyzAnswer.Refused r) xy a b c d = tt
 
-figures-small : (a s : ℕ) (xs : List ℕ) (f : ReportFigures) → figuresOf a s xs ≡ FiguresAnswer.Value f → Small f
+figures-small : (c : Check) (a s : ℕ) (xs : List ℕ) → SmallFigures (unless c FiguresAnswer.Refused (figuresOf a s xs))
 unfolding illuminanceOf xyzOf xyOf
-figures-small a s xs f e =
-    let given = together-given (photopicOf a s xs) (scotopicOf a s xs) (xyzOf 2 a s xs) (xyOf 2 a s xs) f e in
-    record {
-      photopic = reading-small (lightCheck a s xs) _ _ (f .photopic) (given .0);
-      scotopic = reading-small (lightCheck a s xs) _ _ (f .scotopic) (given .1);
-      xyz = xyz-small (colourCheck 2 a s xs) _ _ _ _ (f .xyz) (given .2);
-      xy = rw (← given .3) (xy-small (colourCheck 2 a s xs) _ _ _);
-    }
+figures-small (Refused r) a s xs = tt
+figures-small Fine a s xs =
+    together-small (photopicOf a s xs) (scotopicOf a s xs) (xyzOf 2 a s xs) (xyOf 2 a s xs) (reading-small (lightCheck a s xs) _ _)
+    (reading-small (lightCheck a s xs) _ _) (xyz-small (colourCheck 2 a s xs) _ _ _ _) (xy-small (colourCheck 2 a s xs) _ _ _)
 
--- figures behind a check are the figures
-accepted : (c : Check) (a : FiguresAnswer) (f : ReportFigures) → unless c FiguresAnswer.Refused a ≡ FiguresAnswer.Value f → a ≡ FiguresAnswer.Value f
-accepted Fine a f e = e
-accepted (Refused r) a f e = absurd (let z : _≡_ {A = ℕ} 0 1 = cc in omega arith)
-
-pub answer-small : (bytes : List ℕ) (f : ReportFigures) → answerOf bytes ≡ FiguresAnswer.Value f → Small f
-unfolding answerOf
-answer-small bytes f e = figures-small (startOf bytes) (stepOf bytes) (samplesOf (countOf bytes) bytes) f (accepted (recordCheck bytes) _ f e)
+pub recorded-small : (bytes : List ℕ) → SmallFigures (recordedFigures bytes)
+unfolding recordedFigures
+recorded-small bytes = figures-small (recordCheck bytes) (startOf bytes) (stepOf bytes) (samplesOf (countOf bytes) bytes)

@@ -4,7 +4,7 @@ use mathlib.Core.List.{List}
 use Prim.Native.Nat.{ℕ, _+_, _≤_}
 use lib.ListN.{length}
 use Rattle.record.specs.Leaf.{stored}
-use Rattle.page.specs.declared.lines.Said.{Said}
+use Rattle.page.specs.declared.lines.Shown.{Shown}
 use Rattle.page.specs.Report.{decimal, coordinate, numbered}
 
 -- these values were stored in a text from a place on, where there was room for them, up to this end
@@ -13,8 +13,8 @@ pub record Put (before : List ℕ) (at : ℕ) (values : List ℕ) (end : ℕ) (a
   pub ends : end ≡ at + length values
   pub text : after ≡ stored before at values
 
--- what a line says behind its word
-abbrev pub saidText : Said → List ℕ
-saidText (Said.Number n) = decimal n
-saidText (Said.Coordinate n) = coordinate n
-saidText (Said.Refused r) = numbered r
+-- what a line shows behind its word
+abbrev pub shownText : Shown → List ℕ
+shownText (Shown.Number n) = decimal n
+shownText (Shown.Coordinate n) = coordinate n
+shownText (Shown.Refused r) = numbered r

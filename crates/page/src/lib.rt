@@ -2,14 +2,14 @@
 use grid::refusals::ROOM;
 ghost use mathlib.Core.Path.{_≡_};
 ghost use lib.ListN.{length};
-ghost use Rattle.page.specs.Report.{answerOf};
+ghost use Rattle.page.specs.Recorded.{recordedFigures};
 ghost use Rattle.page.specs.Answer.{reportAnswer, textAfter};
 use grid::Refusal;
 use readings::figures::FiguresAnswer;
 use record::RecordRead;
 
 mod lines;
-pub mod promise;
+pub mod promises;
 mod put;
 
 // What writing a report gives: the number of bytes written.
@@ -24,7 +24,7 @@ pub fn write_report(bytes: &[u8], text: &mut [u8]) -> ReportWritten
     ensures { λ _. ⌜ now (text .exit) ≡ textAfter (now (bytes .entry)) (now (text .entry)) ⌝ }
 {
     let mut page = [0u8; 99];
-    let length = lines::put_text(&mut page, answer_of(bytes));
+    let length = lines::put_text(&mut page, recorded_figures(bytes));
     if text.len() < length {
         return ReportWritten::Refused(Refusal {
             number: ROOM,
@@ -35,9 +35,9 @@ pub fn write_report(bytes: &[u8], text: &mut [u8]) -> ReportWritten
     ReportWritten::Written(length as u32)
 }
 
-// The figures of the record's spectrum, or the refusal of the record.
-fn answer_of(bytes: &[u8]) -> FiguresAnswer
-    ensures { λ r. ⌜ r ≡ answerOf (now (bytes .entry)) ⌝ }
+// A record's figures, or its refusal.
+fn recorded_figures(bytes: &[u8]) -> FiguresAnswer
+    ensures { λ r. ⌜ r ≡ recordedFigures (now (bytes .entry)) ⌝ }
 {
     let mut row = [0u32; 531];
     match record::read_record(bytes, &mut row) {

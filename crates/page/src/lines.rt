@@ -3,7 +3,7 @@ use grid::refusals::SAMPLE;
 ghost use Prim.Native.Nat.{_+_, _≤_};
 ghost use lib.ListN.{length};
 ghost use Rattle.page.specs.Report.{line, colourLines, figureLines, numbered, textOf};
-ghost use Rattle.page.specs.Put.{Put, saidText};
+ghost use Rattle.page.specs.Put.{Put, shownText};
 use crate::put::put;
 use crate::put::put_coordinate;
 use crate::put::put_number;
@@ -12,8 +12,8 @@ use grid::Refusal;
 use readings::figures::FiguresAnswer;
 use readings::figures::ReportFigures;
 
-// What a line says behind its word.
-pub enum Said {
+// What a line shows behind its word.
+pub enum Shown {
     Number(u32),
     Coordinate(u32),
     Refused(Refusal),
@@ -26,7 +26,7 @@ pub fn put_text(text: &mut [u8], answer: FiguresAnswer) -> usize
 {
     match answer {
         FiguresAnswer::Value(figures) => put_figures(text, figures),
-        FiguresAnswer::Refused(refusal) => put_line(text, 0, b"refused ", Said::Refused(refusal)),
+        FiguresAnswer::Refused(refusal) => put_line(text, 0, b"refused ", Shown::Refused(refusal)),
     }
 }
 
@@ -36,11 +36,11 @@ fn put_figures(text: &mut [u8], figures: ReportFigures) -> usize
 {
     let xyz = figures.xyz;
     let xy = figures.xy;
-    let night = put_line(text, 0, b"photopic ", Said::Number(figures.photopic));
-    let x = put_line(text, night, b"scotopic ", Said::Number(figures.scotopic));
-    let y = put_line(text, x, b"X ", Said::Number(xyz.x));
-    let z = put_line(text, y, b"Y ", Said::Number(xyz.y));
-    let colour = put_line(text, z, b"Z ", Said::Number(xyz.z));
+    let night = put_line(text, 0, b"photopic ", Shown::Number(figures.photopic));
+    let x = put_line(text, night, b"scotopic ", Shown::Number(figures.scotopic));
+    let y = put_line(text, x, b"X ", Shown::Number(xyz.x));
+    let z = put_line(text, y, b"Y ", Shown::Number(xyz.y));
+    let colour = put_line(text, z, b"Z ", Shown::Number(xyz.z));
     put_colour(text, colour, xy)
 }
 
@@ -51,31 +51,31 @@ fn put_colour(text: &mut [u8], at: usize, xy: XyAnswer) -> usize
 {
     match xy {
         XyAnswer::Value(v) => {
-            let y = put_line(text, at, b"x ", Said::Coordinate(v.x));
-            put_line(text, y, b"y ", Said::Coordinate(v.y))
+            let y = put_line(text, at, b"x ", Shown::Coordinate(v.x));
+            put_line(text, y, b"y ", Shown::Coordinate(v.y))
         }
         XyAnswer::Refused(_) => put(text, at, b"x -\ny -\n"),
     }
 }
 
-// A word, what it says, and the newline.
-fn put_line(text: &mut [u8], at: usize, word: &[u8], said: Said) -> usize
-    requires { ⌜ at + length (line (now word) (saidText said)) ≤ length (now text) ⌝ }
-    ensures { λ r. ⌜ Put (now (text .entry)) at (line (now (word .entry)) (saidText said)) r (now (text .exit)) ⌝ }
+// A word, what it shows, and the newline.
+fn put_line(text: &mut [u8], at: usize, word: &[u8], shown: Shown) -> usize
+    requires { ⌜ at + length (line (now word) (shownText shown)) ≤ length (now text) ⌝ }
+    ensures { λ r. ⌜ Put (now (text .entry)) at (line (now (word .entry)) (shownText shown)) r (now (text .exit)) ⌝ }
 {
     let behind = put(text, at, word);
-    let end = put_said(text, behind, said);
+    let end = put_shown(text, behind, shown);
     put(text, end, b"\n")
 }
 
-fn put_said(text: &mut [u8], at: usize, said: Said) -> usize
-    requires { ⌜ at + length (saidText said) ≤ length (now text) ⌝ }
-    ensures { λ r. ⌜ Put (now (text .entry)) at (saidText said) r (now (text .exit)) ⌝ }
+fn put_shown(text: &mut [u8], at: usize, shown: Shown) -> usize
+    requires { ⌜ at + length (shownText shown) ≤ length (now text) ⌝ }
+    ensures { λ r. ⌜ Put (now (text .entry)) at (shownText shown) r (now (text .exit)) ⌝ }
 {
-    match said {
-        Said::Number(n) => put_number(text, at, n as usize),
-        Said::Coordinate(n) => put_coordinate(text, at, n as usize),
-        Said::Refused(refusal) => put_refusal(text, at, refusal),
+    match shown {
+        Shown::Number(n) => put_number(text, at, n as usize),
+        Shown::Coordinate(n) => put_coordinate(text, at, n as usize),
+        Shown::Refused(refusal) => put_refusal(text, at, refusal),
     }
 }
 

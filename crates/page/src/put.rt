@@ -20,7 +20,7 @@ pub fn put(text: &mut [u8], at: usize, word: &[u8]) -> usize
 fn digit(n: usize) -> u8
     ensures { λ r. ⌜ r ≡ digitOf n ⌝ }
 {
-    (48 + n % 10) as u8
+    b'0' + (n % 10) as u8
 }
 
 // A number in decimal.
@@ -42,7 +42,7 @@ pub fn put_coordinate(text: &mut [u8], at: usize, n: usize) -> usize
     ensures { λ r. ⌜ Put (now (text .entry)) at (coordinate n) r (now (text .exit)) ⌝ }
 {
     let places = [
-        46,
+        b'.',
         digit(n / 10000),
         digit(n / 1000),
         digit(n / 100),

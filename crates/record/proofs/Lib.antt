@@ -9,5 +9,5 @@ pub mod Turn
 pub mod Refusals
 pub mod Accepted
 pub mod Reading
+pub mod SpectrumRead
 pub mod Round
-pub mod Promises

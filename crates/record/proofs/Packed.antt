@@ -11,7 +11,7 @@ use lib.Seq.{take-at, take-all, drop-append-add}
 use Rattle.record.specs.Bits.{bitsOf, pack, cut, bytewise}
 use Rattle.record.specs.Format.{headerWidths, headerFields, bodyWidths, bodyFields, recordOf}
 use Rattle.record.specs.Leaf.{bodyOf}
-use Rattle.record.proofs.Rows.{Fit, length-pack, length-cut, pack-append, pack-whole, cut-join}
+use Rattle.record.proofs.Rows.{Fit, none, more, length-pack, length-cut, pack-append, pack-whole, cut-join}
 
 -- two samples in five bytes, and one in three
 abbrev pub pairBytes : ℕ → ℕ → List ℕ
@@ -27,16 +27,14 @@ body-pair x y xs h l =
     let m = (5 * n + 1) / 2 in
     let long : (5 * suc (suc n) + 1) / 2 ≡ 5 + m = omega arith in
     let odd : suc (suc n) % 2 ≡ n % 2 = omega arith in
-    let fit : Fit (20 ∷ 20 ∷ []) (x ∷ y ∷ []) = (h, (l, tt)) in
-    let ks : List ℕ = 20 ∷ 20 ∷ [] in
-    let vs : List ℕ = x ∷ y ∷ [] in
+    let fit : Fit (20 ∷ 20 ∷ []) (x ∷ y ∷ []) = more h (more l none) in
     rw (long, odd)
-    (ap₂ cut (sym (replicate-append-replicate 5 m 8)) (pack-append ks (bodyWidths n) vs (bodyFields xs) fit))
-    ∙ cut-join (bytewise 5) (bytewise m) (pack ks vs) (pack (bodyWidths n) (bodyFields xs)) (length-pack ks vs fit)
+    (ap₂ cut (sym (replicate-append-replicate 5 m 8)) (pack-append (bodyWidths n) (bodyFields xs) fit))
+    ∙ cut-join (bytewise 5) (bytewise m) (pack (20 ∷ 20 ∷ []) (x ∷ y ∷ [])) (pack (bodyWidths n) (bodyFields xs)) (length-pack fit)
 
 pub body-last : (x : ℕ) → x < 2 ^ 20 → bodyOf (x ∷ []) ≡ threeBytes (x * 16)
 unfolding bodyOf
-body-last x h = ap (cut (bytewise 3)) (pack-whole (20 ∷ 4 ∷ []) (x ∷ 0 ∷ []) (h, (omega arith, tt)) ∙ ap (bitsOf 24) (omega arith))
+body-last x h = ap (cut (bytewise 3)) (pack-whole {ks = 20 ∷ 4 ∷ []} {vs = x ∷ 0 ∷ []} (more h (more (omega arith) none)) ∙ ap (bitsOf 24) (omega arith))
 
 pub length-body : (xs : List ℕ) → length (bodyOf xs) ≡ (5 * length xs + 1) / 2
 unfolding bodyOf
@@ -83,8 +81,8 @@ unfolding recordOf bodyOf
 record-split a s xs fit =
     let n = length xs in
     let head = headerFields a s n in
-    ap₂ cut (sym (replicate-append-replicate 3 ((5 * n + 1) / 2) 8)) (pack-append headerWidths (bodyWidths n) head (bodyFields xs) fit)
-    ∙ cut-join (bytewise 3) (bytewise ((5 * n + 1) / 2)) (pack headerWidths head) (pack (bodyWidths n) (bodyFields xs)) (length-pack headerWidths head fit)
+    ap₂ cut (sym (replicate-append-replicate 3 ((5 * n + 1) / 2) 8)) (pack-append (bodyWidths n) (bodyFields xs) fit)
+    ∙ cut-join (bytewise 3) (bytewise ((5 * n + 1) / 2)) (pack headerWidths head) (pack (bodyWidths n) (bodyFields xs)) (length-pack fit)
 
 code-lt : (one two five : Bool) → cond one 0 (cond two 1 (cond five 2 3)) < 2 ^ 2
 code-lt true two five = omega arith
@@ -93,4 +91,6 @@ code-lt false false true = omega arith
 code-lt false false false = omega arith
 
 pub header-fit : (a s n : ℕ) → a ≤ 380 → n < 1024 → Fit headerWidths (headerFields a s n)
-header-fit a s n h l = (omega arith, (code-lt (eqb s 1) (eqb s 2) (eqb s 5), (omega arith, (omega arith, (omega arith, tt)))))
+header-fit a s n h l =
+    more {k = 4} {v = 1} (omega arith)
+    (more (code-lt (eqb s 1) (eqb s 2) (eqb s 5)) (more {k = 7} {v = a - 300} (omega arith) (more {k = 10} {v = n} (omega arith) (more {k = 1} {v = 0} (omega arith) none))))

@@ -3,19 +3,20 @@ use mathlib.Core.Path.{_≡_, refl, sym, ap, ap₂, _∙_}
 use mathlib.Core.Logic.{⊎-elim}
 use mathlib.Core.Bool.{true}
 use mathlib.Core.List.{List, [], _∷_, _++_}
-use Prim.Native.Nat.{ℕ, zero, suc, _+_, _*_, _-_, _%_, _<_}
+use Prim.Native.Nat.{ℕ, zero, suc, _+_, _*_, _-_, _%_, _^_, _≤_, _<_}
 use native.Mathlib.Nat.{add-zero}
 use native.Mathlib.Omega.{arith}
+use borrow.Author.Tests.{le-leb}
 use lib.ListN.{length, take, drop, getD, replicate, length-replicate}
 use lib.Seq.{take-at, getD-append-add}
-use Rattle.grid.specs.Check.{isStep}
+use Rattle.grid.specs.Check.{isStep, lightCheck}
 use Rattle.grid.specs.declared.Check.the-variants.{Fine}
 use Rattle.grid.proofs.Accepted.{step-cases}
 use Rattle.record.specs.Bits.{pack, cut, bytewise, bitsOfBytes, Bytes}
 use Rattle.record.specs.Format.{headerWidths, bodyWidths, headerFields, bodyFields, codeOf, stepOfCode, lengthOf, recordOf, headerOf, fieldsOf, startOf, stepOf, countOf, samplesOf, paddingOf}
-use Rattle.grid.specs.Check.{lightCheck}
-use Rattle.record.specs.Answer.{recordCheck}
-use Rattle.record.proofs.Rows.{Fit, total, total-append, total-replicate, fit-append, fit-row, fit-zeros, fit-cut, packed-bits, length-cut, regroup}
+use Rattle.record.specs.Answer.{recordCheck, writeAnswer, bytesAfter}
+use Rattle.record.specs.Said.{wrote, saidWritten}
+use Rattle.record.proofs.Rows.{Fit, more, total, total-append, total-replicate, fit-append, fit-row, fit-zeros, fit-cut, packed-bits, length-cut, regroup}
 use Rattle.record.proofs.Fields.{length-header, fields-split, body-split, samples-cut, samples-length, padding-cut, five-halves}
 use Rattle.grid.proofs.Light.{grid-fine, samples-fine, within, on-grid}
 use Rattle.record.proofs.Accepted.{fit-header}
@@ -54,17 +55,15 @@ no-padding (suc o) = refl
 module _ (a s : ℕ) (xs : List ℕ) (fine : lightCheck a s xs ≡ Fine) where
   fields-fit : Fit (headerWidths ++ bodyWidths (length xs)) (headerFields a s (length xs) ++ bodyFields xs)
   fields-fit =
-      let n = length xs in
       let limit = within a s xs fine in
-      fit-append headerWidths (bodyWidths n) (headerFields a s n) (bodyFields xs) (fit-header a s xs fine)
-      (fit-append (replicate n 20) (replicate (n % 2) 4) xs (replicate (n % 2) 0) (fit-row 20 xs (λ k. omega (arith, limit k))) (fit-zeros (n % 2) 4))
+      fit-append (fit-header a s xs fine) (fit-append (fit-row 20 xs (λ k. omega (arith, limit k))) (fit-zeros (length xs % 2) 4))
 
   fields-back : fieldsOf (length xs) (recordOf a s xs) ≡ headerFields a s (length xs) ++ bodyFields xs
   unfolding fieldsOf recordOf
   fields-back =
       let n = length xs in
       ap (λ (k : ℕ). cut (headerWidths ++ bodyWidths n) (pack (bytewise k) (recordOf a s xs))) (length-record a s xs)
-      ∙ regroup (headerWidths ++ bodyWidths n) (bytewise (lengthOf n)) (headerFields a s n ++ bodyFields xs) fields-fit (whole-bytes n)
+      ∙ regroup (bytewise (lengthOf n)) fields-fit (whole-bytes n)
 
   header-back : headerOf (recordOf a s xs) ≡ headerFields a s (length xs)
   header-back =
@@ -110,12 +109,23 @@ module _ (a s : ℕ) (xs : List ℕ) (fine : lightCheck a s xs ≡ Fine) where
       }
       (rw count-back record { whole = length-record a s xs; padding = padding-back; samples = rw samples-back (samples-fine a s xs fine) })
 
+  pub written :
+      (bytes : List ℕ) → lengthOf (length xs) ≤ length bytes →
+      (saidWritten (writeAnswer a s xs (length bytes)) ≡ wrote (lengthOf (length xs)))
+      × (bytesAfter a s xs bytes ≡ recordOf a s xs ++ drop (lengthOf (length xs)) bytes)
+  written bytes room =
+      let e = le-leb (lengthOf (length xs)) (length bytes) room in
+      (rw (fine, e), rw (fine, e))
+
 -- padding that is 0 where there is some is a row of zeros
 padding-zeros : (o : ℕ) (bits : List ℕ) → o < 2 → getD (cut (replicate o 4) bits) 0 0 ≡ 0 → cut (replicate o 4) bits ≡ replicate o 0
 unfolding cut
 padding-zeros zero bits h e = refl
 padding-zeros (suc zero) bits h e = ap (λ (x : ℕ). x ∷ []) e
 padding-zeros (suc (suc o)) bits h e = absurd (omega arith)
+
+second : {j k u v : ℕ} {ks vs : List ℕ} → Fit (j ∷ k ∷ ks) (u ∷ v ∷ vs) → v < 2 ^ k
+second (more h (more l t)) = l
 
 -- an accepted record
 module _ (bytes : List ℕ) (fine : recordCheck bytes ≡ Fine) where
@@ -135,7 +145,7 @@ module _ (bytes : List ℕ) (fine : recordCheck bytes ≡ Fine) where
       let code = getD (headerOf bytes) 1 0 in
       let start = getD (headerOf bytes) 2 0 in
       let same : (300 + start) - 300 ≡ start = omega arith in
-      rw (code-step code (fit .1 .0), same, found .reserved, found .edition)
+      rw (code-step code (second fit), same, found .reserved, found .edition)
 
   fields-again : fieldsOf (countOf bytes) bytes ≡ headerFields (startOf bytes) (stepOf bytes) (countOf bytes) ++ bodyFields (samplesOf (countOf bytes) bytes)
   fields-again =
@@ -157,4 +167,4 @@ module _ (bytes : List ℕ) (fine : recordCheck bytes ≡ Fine) where
       let whole = record-fine bytes fine .1 .whole in
       ap (λ (k : ℕ). cut (bytewise (lengthOf k)) (pack (headerWidths ++ bodyWidths k) (headerFields (startOf bytes) (stepOf bytes) k ++ bodyFields xs))) e
       ∙ ap₂ (λ (k : ℕ) (vs : List ℕ). cut (bytewise k) (pack widths vs)) (sym whole) (sym fields-again)
-      ∙ regroup (bytewise (length bytes)) widths bytes (fit-row 8 bytes known) (ap (λ (k : ℕ). total (bytewise k)) whole ∙ sym (whole-bytes n))
+      ∙ regroup widths (fit-row 8 bytes known) (ap (λ (k : ℕ). total (bytewise k)) whole ∙ sym (whole-bytes n))

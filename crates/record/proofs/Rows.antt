@@ -12,11 +12,9 @@ use Rattle.record.specs.Bits.{bitsOf, num, pack, cut}
 use Rattle.record.proofs.Bits.{Bits, length-bitsOf, are-bits, bits-append, num-bitsOf, bitsOf-add, join, bitsOf-num, num-lt}
 
 -- each value is below two to its width
-abbrev pub Fit : List ℕ → List ℕ → Type 0
-Fit [] [] = Unit {0}
-Fit [] (v ∷ vs) = ⊥
-Fit (k ∷ ks) [] = ⊥
-Fit (k ∷ ks) (v ∷ vs) = (v < 2 ^ k) × Fit ks vs
+pub data Fit : List ℕ → List ℕ → Type 0 where
+  none : Fit [] []
+  more : {k v : ℕ} {ks vs : List ℕ} → v < 2 ^ k → Fit ks vs → Fit (k ∷ ks) (v ∷ vs)
 
 -- how many bits widths take
 abbrev pub total : List ℕ → ℕ
@@ -31,34 +29,28 @@ pub total-replicate : (n k : ℕ) → total (replicate n k) ≡ k * n
 total-replicate zero k = sym (mul-zero k)
 total-replicate (suc n) k = let e = total-replicate n k in rw (e, mul-suc) (omega arith)
 
-pub fit-append : (ks js vs us : List ℕ) → Fit ks vs → Fit js us → Fit (ks ++ js) (vs ++ us)
-fit-append [] js [] us h l = l
-fit-append [] js (v ∷ vs) us h l = absurd h
-fit-append (k ∷ ks) js [] us h l = absurd h
-fit-append (k ∷ ks) js (v ∷ vs) us h l = (h .0, fit-append ks js vs us (h .1) l)
+pub fit-append : {ks js vs us : List ℕ} → Fit ks vs → Fit js us → Fit (ks ++ js) (vs ++ us)
+fit-append none l = l
+fit-append (more h t) l = more h (fit-append t l)
 
 -- a row whose values all fit one width
 pub fit-row : (k : ℕ) (vs : List ℕ) → ((i : ℕ) → getD vs i 0 < 2 ^ k) → Fit (replicate (length vs) k) vs
-fit-row k [] h = tt
-fit-row k (v ∷ vs) h = (h 0, fit-row k vs (λ i. h (suc i)))
+fit-row k [] h = none
+fit-row k (v ∷ vs) h = more (h 0) (fit-row k vs (λ i. h (suc i)))
 
 pub row-fits : (n k : ℕ) (vs : List ℕ) → Fit (replicate n k) vs → (i : ℕ) → getD vs i 0 < 2 ^ k
-row-fits zero k [] h i = pow-pos k
-row-fits zero k (v ∷ vs) h i = absurd h
-row-fits (suc n) k [] h i = absurd h
-row-fits (suc n) k (v ∷ vs) h zero = h .0
-row-fits (suc n) k (v ∷ vs) h (suc i) = row-fits n k vs (h .1) i
+row-fits zero k [] none i = pow-pos k
+row-fits (suc n) k (v ∷ vs) (more h t) zero = h
+row-fits (suc n) k (v ∷ vs) (more h t) (suc i) = row-fits n k vs t i
 
 pub fit-zeros : (n k : ℕ) → Fit (replicate n k) (replicate n 0)
-fit-zeros zero k = tt
-fit-zeros (suc n) k = (pow-pos k, fit-zeros n k)
+fit-zeros zero k = none
+fit-zeros (suc n) k = more (pow-pos k) (fit-zeros n k)
 
-pub length-pack : (ks vs : List ℕ) → Fit ks vs → length (pack ks vs) ≡ total ks
+pub length-pack : {ks vs : List ℕ} → Fit ks vs → length (pack ks vs) ≡ total ks
 unfolding pack
-length-pack [] [] h = refl
-length-pack [] (v ∷ vs) h = absurd h
-length-pack (k ∷ ks) [] h = absurd h
-length-pack (k ∷ ks) (v ∷ vs) h = length-append (bitsOf k v) (pack ks vs) ∙ ap₂ (λ (x y : ℕ). x + y) (length-bitsOf k v) (length-pack ks vs (h .1))
+length-pack none = refl
+length-pack (more {k} {v} {ks} {vs} h t) = length-append (bitsOf k v) (pack ks vs) ∙ ap₂ (λ (x y : ℕ). x + y) (length-bitsOf k v) (length-pack t)
 
 pub packed-bits : (ks vs : List ℕ) → Bits (pack ks vs)
 unfolding pack
@@ -66,14 +58,11 @@ packed-bits [] vs = tt
 packed-bits (k ∷ ks) [] = tt
 packed-bits (k ∷ ks) (v ∷ vs) = bits-append (bitsOf k v) (pack ks vs) (are-bits k v) (packed-bits ks vs)
 
-pub pack-append : (ks js vs us : List ℕ) → Fit ks vs → pack (ks ++ js) (vs ++ us) ≡ pack ks vs ++ pack js us
+pub pack-append : {ks vs : List ℕ} (js us : List ℕ) → Fit ks vs → pack (ks ++ js) (vs ++ us) ≡ pack ks vs ++ pack js us
 unfolding pack
-pack-append [] js [] us h = refl
-pack-append [] js (v ∷ vs) us h = absurd h
-pack-append (k ∷ ks) js [] us h = absurd h
-pack-append (k ∷ ks) js (v ∷ vs) us h =
-    ap (λ (r : List ℕ). bitsOf k v ++ r) (pack-append ks js vs us (h .1))
-    ∙ sym (append-assoc (bitsOf k v) (pack ks vs) (pack js us))
+pack-append js us none = refl
+pack-append js us (more {k} {v} {ks} {vs} h t) =
+    ap (λ (r : List ℕ). bitsOf k v ++ r) (pack-append js us t) ∙ sym (append-assoc (bitsOf k v) (pack ks vs) (pack js us))
 
 pub length-cut : (ks bits : List ℕ) → length (cut ks bits) ≡ length ks
 unfolding cut
@@ -88,18 +77,16 @@ cut-append (k ∷ ks) js bits =
     (cut-append ks js (drop k bits) ∙ ap (λ (r : List ℕ). cut ks (drop k bits) ++ cut js r) (drop-drop (total ks) k bits))
 
 -- what was packed comes out again
-pub cut-pack : (ks vs rest : List ℕ) → Fit ks vs → cut ks (pack ks vs ++ rest) ≡ vs
+pub cut-pack : {ks vs : List ℕ} (rest : List ℕ) → Fit ks vs → cut ks (pack ks vs ++ rest) ≡ vs
 unfolding pack cut
-cut-pack [] [] rest h = refl
-cut-pack [] (v ∷ vs) rest h = absurd h
-cut-pack (k ∷ ks) [] rest h = absurd h
-cut-pack (k ∷ ks) (v ∷ vs) rest h =
+cut-pack rest none = refl
+cut-pack rest (more {k} {v} {ks} {vs} h t) =
     let e = append-assoc (bitsOf k v) (pack ks vs) rest in
     let l = length-bitsOf k v in
     rw e
     (ap₂ {C = List ℕ} (λ (x : ℕ) (xs : List ℕ). x ∷ xs)
-    (ap num (take-at (bitsOf k v) (pack ks vs ++ rest) k l) ∙ num-bitsOf k v ∙ mod-eq-of-lt (h .0))
-    (ap (cut ks) (drop-at (bitsOf k v) (pack ks vs ++ rest) k l) ∙ cut-pack ks vs rest (h .1)))
+    (ap num (take-at (bitsOf k v) (pack ks vs ++ rest) k l) ∙ num-bitsOf k v ∙ mod-eq-of-lt h)
+    (ap (cut ks) (drop-at (bitsOf k v) (pack ks vs ++ rest) k l) ∙ cut-pack rest t))
 
 pub bits-take : (k : ℕ) (bits : List ℕ) → Bits bits → Bits (take k bits)
 bits-take zero bits h = tt
@@ -125,11 +112,9 @@ pack-cut (k ∷ ks) bits h l =
     ∙ take-append-drop k bits
 
 -- values that are packed by their widths, cut by others that take as many bits, and packed and cut back, are the same again
-pub regroup : (ks js vs : List ℕ) → Fit ks vs → total ks ≡ total js → cut ks (pack js (cut js (pack ks vs))) ≡ vs
-regroup ks js vs h e =
-    ap (cut ks) (pack-cut js (pack ks vs) (packed-bits ks vs) (length-pack ks vs h ∙ e))
-    ∙ ap (cut ks) (sym (append-nil (pack ks vs)))
-    ∙ cut-pack ks vs [] h
+pub regroup : {ks vs : List ℕ} (js : List ℕ) → Fit ks vs → total ks ≡ total js → cut ks (pack js (cut js (pack ks vs))) ≡ vs
+regroup {ks} {vs} js h e =
+    ap (cut ks) (pack-cut js (pack ks vs) (packed-bits ks vs) (length-pack h ∙ e) ∙ sym (append-nil (pack ks vs))) ∙ cut-pack [] h
 
 -- the number that values packed by their widths make
 abbrev pub whole : List ℕ → List ℕ → ℕ
@@ -137,19 +122,15 @@ whole [] vs = 0
 whole (k ∷ ks) [] = 0
 whole (k ∷ ks) (v ∷ vs) = v * 2 ^ total ks + whole ks vs
 
-pub whole-lt : (ks vs : List ℕ) → Fit ks vs → whole ks vs < 2 ^ total ks
-whole-lt [] [] h = omega arith
-whole-lt [] (v ∷ vs) h = absurd h
-whole-lt (k ∷ ks) [] h = absurd h
-whole-lt (k ∷ ks) (v ∷ vs) h = rw (pow-add) (digits-lt (h .0) (whole-lt ks vs (h .1)))
+pub whole-lt : {ks vs : List ℕ} → Fit ks vs → whole ks vs < 2 ^ total ks
+whole-lt none = omega arith
+whole-lt (more h t) = rw (pow-add) (digits-lt h (whole-lt t))
 
-pub pack-whole : (ks vs : List ℕ) → Fit ks vs → pack ks vs ≡ bitsOf (total ks) (whole ks vs)
+pub pack-whole : {ks vs : List ℕ} → Fit ks vs → pack ks vs ≡ bitsOf (total ks) (whole ks vs)
 unfolding pack bitsOf
-pack-whole [] [] h = refl
-pack-whole [] (v ∷ vs) h = absurd h
-pack-whole (k ∷ ks) [] h = absurd h
-pack-whole (k ∷ ks) (v ∷ vs) h =
-    ap (λ (r : List ℕ). bitsOf k v ++ r) (pack-whole ks vs (h .1)) ∙ join k (total ks) v (whole ks vs) (whole-lt ks vs (h .1))
+pack-whole none = refl
+pack-whole (more {k} {v} {ks} {vs} h t) =
+    ap (λ (r : List ℕ). bitsOf k v ++ r) (pack-whole t) ∙ join k (total ks) v (whole ks vs) (whole-lt t)
 
 -- a value in a row of equal widths
 pub getD-cut : (n k i : ℕ) (bits : List ℕ) → i < n → getD (cut (replicate n k) bits) i 0 ≡ num (take k (drop (k * i) bits))
@@ -202,7 +183,7 @@ cut-join ks js bits rest e =
 -- what is cut fits its width
 pub fit-cut : (ks bits : List ℕ) → Bits bits → Fit ks (cut ks bits)
 unfolding cut
-fit-cut [] bits h = tt
+fit-cut [] bits h = none
 fit-cut (k ∷ ks) bits h =
     let small : length (take k bits) ≤ k = rw length-take (omega arith) in
-    (lt-of-lt-of-le (num-lt (take k bits) (bits-take k bits h)) (pow-mono small), fit-cut ks (drop k bits) (bits-drop k bits h))
+    more (lt-of-lt-of-le (num-lt (take k bits) (bits-take k bits h)) (pow-mono small)) (fit-cut ks (drop k bits) (bits-drop k bits h))

@@ -9,7 +9,7 @@ use lib.Seq.{drop-append-add, drop-append-le, take-append-le, drop-drop, drop-ni
 use Rattle.record.specs.Bits.{bitsOf, num, pack, bytewise, bitsOfBytes, Bytes}
 use Rattle.record.specs.Leaf.{threeAt}
 use Rattle.record.proofs.Bits.{length-bitsOf, join, field}
-use Rattle.record.proofs.Rows.{Fit, total, total-replicate, whole, whole-lt}
+use Rattle.record.proofs.Rows.{Fit, none, more, total, total-replicate, whole, whole-lt}
 
 pub bytes-tail : (x : ℕ) (bytes : List ℕ) → Bytes (x ∷ bytes) → Bytes bytes
 bytes-tail x bytes h k = h (suc k)
@@ -33,9 +33,9 @@ abbrev pub number : ℕ → List ℕ → ℕ
 number m bytes = whole (bytewise m) (take m bytes)
 
 fit-front : (m : ℕ) (bytes : List ℕ) → Bytes bytes → m ≤ length bytes → Fit (bytewise m) (take m bytes)
-fit-front zero bytes h l = tt
+fit-front zero bytes h l = none
 fit-front (suc m) [] h l = absurd (omega arith)
-fit-front (suc m) (x ∷ bytes) h l = (h 0, fit-front m bytes (bytes-tail x bytes h) (omega arith))
+fit-front (suc m) (x ∷ bytes) h l = more (h 0) (fit-front m bytes (bytes-tail x bytes h) (omega arith))
 
 pub front :
     (m : ℕ) (bytes : List ℕ) → Bytes bytes → m ≤ length bytes →
@@ -50,7 +50,7 @@ front (suc m) (x ∷ bytes) h l =
     let v = number m bytes in
     ap (λ (r : List ℕ). bitsOf 8 x ++ r) (front m bytes known within)
     ∙ sym (append-assoc (bitsOf 8 x) (bitsOf t v) (bitsOfBytes (drop m bytes)))
-    ∙ ap (λ (r : List ℕ). r ++ bitsOfBytes (drop m bytes)) (join 8 t x v (whole-lt (bytewise m) (take m bytes) (fit-front m bytes known within)))
+    ∙ ap (λ (r : List ℕ). r ++ bitsOfBytes (drop m bytes)) (join 8 t x v (whole-lt (fit-front m bytes known within)))
 
 -- a field that lies in the m bytes from q on, behind r bits and before t
 pub window :

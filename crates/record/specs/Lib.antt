@@ -4,4 +4,4 @@ pub mod Format
 pub mod Answer
 pub mod Said
 pub mod Leaf
-pub mod Promise
+pub mod Promises

@@ -10,7 +10,7 @@ use grid::Refusal;
 mod body;
 mod head;
 mod pack;
-pub mod promise;
+pub mod promises;
 mod triple;
 mod unpack;
 

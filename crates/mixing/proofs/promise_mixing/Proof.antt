@@ -1,4 +1,4 @@
--- The promise is its theorems.
+-- Numerators and divisors add up as rows are mixed; the nearest quotient is compared by products, which add up too.
 use Rattle.mixing.proofs.Nearest.{halves-up}
 use Rattle.mixing.proofs.Illuminance.{illuminance}
 use Rattle.mixing.proofs.Coordinate.{between}

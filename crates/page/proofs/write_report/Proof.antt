@@ -12,41 +12,48 @@ use borrow.Author.Needs.{needs}
 use Rattle.page.proofs.write_report.Statement.{statement}
 use Rattle.page.proofs.write_report.Tie as tie
 
+abbrev begin : tie.After-recorded-figures → tie.Start
+begin c = c .before .before .before .before
+
 abbrev bytes : tie.After-put-text → List ℕ
-bytes c = c .before .before .before .before .before .args .bytes .now
+bytes c = begin (c .before) .args .bytes .now
+
+-- where the page is copied, it was put
+abbrev made : tie.After-page3 → tie.After-put-text
+made c = c .before .before .before .before
 
 -- the page has the report at its front
 length-of : (c : tie.After-put-text) → c .put-text .result ≡ length (reportOf (bytes c))
-length-of c = front-end (c .put-text .ensures) ∙ ap (λ a. length (textOf a)) (c .before .answer-of .ensures)
+length-of c = front-end (c .put-text .ensures) ∙ ap (λ a. length (textOf a)) (c .before .recorded-figures .ensures)
 
 text-of : (c : tie.After-put-text) → take (c .put-text .result) (c .put-text .last .0) ≡ reportOf (bytes c)
-text-of c = front-read (c .put-text .ensures) ∙ ap textOf (c .before .answer-of .ensures)
+text-of c = front-read (c .put-text .ensures) ∙ ap textOf (c .before .recorded-figures .ensures)
 
 slice-aggregate-put-text : tie.Need-slice-aggregate-put-text
 slice-aggregate-put-text c = search needs
 
-answer-of-requires : tie.Need-answer-of-requires
-answer-of-requires c κs = search needs
+recorded-figures-requires : tie.Need-recorded-figures-requires
+recorded-figures-requires c κs = search needs
 
 put-text-requires : tie.Need-put-text-requires
-put-text-requires c κs = rw (c .answer-of .ensures) (most (c .before .before .before .before .args .bytes .now))
+put-text-requires c κs = rw (c .recorded-figures .ensures) (most (begin c .args .bytes .now))
 
 returns : tie.Need-returns
 returns c =
     let page = c .before .before in
-    let text = page .before .before .before .before .before .args .text .now in
+    let text = begin (page .before) .args .text .now in
     let report = length-of page in
-    let short = lt-leb (length (reportOf (bytes page))) (length text) (omega (arith, c .if1 .taken)) in
+    let short = lt-leb (length (reportOf (bytes page))) (length text) (omega arith) in
     (rw short, rw short)
 
 array-share-prefix-page : tie.Need-array-share-prefix-page
 array-share-prefix-page c = search needs
 
 slice-aggregate-put : tie.Need-slice-aggregate-put
-slice-aggregate-put c = let page = c .before .before .before .before in length-of page ∙ sym (ap length (text-of page))
+slice-aggregate-put c = length-of (made c) ∙ sym (ap length (text-of (made c)))
 
 put-requires : tie.Need-put-requires
-put-requires c κs = let page = c .before .before .before .before in rw (text-of page) (omega (arith, length-of page, c .before .before .if1 .left))
+put-requires c κs = rw (text-of (made c)) (omega (arith, length-of (made c)))
 
 cast-t15 : tie.Need-cast-t15
 cast-t15 c = search needs
@@ -56,18 +63,19 @@ same-length c = search needs
 
 returns-2 : tie.Need-returns-2
 returns-2 c =
-    let page = c .before .before .before .before .before .before .before in
-    let text = page .before .before .before .before .before .args .text .now in
+    let copy = c .before .before in
+    let page = made (copy .before) in
+    let text = begin (page .before) .args .text .now in
     let report = length-of page in
-    let room = le-leb (length (reportOf (bytes page))) (length text) (omega (arith, c .before .before .before .before .before .if1 .left)) in
-    (rw (room, report), rw (room, ← text-of page) (front (c .before .before .put .ensures)))
+    let room = le-leb (length (reportOf (bytes page))) (length text) (omega arith) in
+    (rw (room, report), rw (room, ← text-of page) (front (copy .put .ensures)))
 
 pub write-report-spec : {M : Type 1} → statement M
 write-report-spec =
     tie.close
     (tie.spec
     slice-aggregate-put-text
-    answer-of-requires
+    recorded-figures-requires
     put-text-requires
     returns
     array-share-prefix-page

@@ -22,6 +22,9 @@ length-said answer = value (saidReported answer) 0
 is-length : (bytes : List ℕ) (room : ℕ) (answer : ReportWritten) → answer ≡ reportAnswer bytes room → 99 ≤ room → length-said answer ≡ length (reportOf bytes)
 is-length bytes room answer e h = ap length-said e ∙ ap (λ (said : Said). value said 0) (written bytes room h)
 
+abbrev report : tie.After-slice-known2 → tie.After-write-report
+report c = c .before .before
+
 write-report-requires : tie.Need-write-report-requires
 write-report-requires c κs = search needs
 
@@ -39,16 +42,16 @@ same-length c = search needs
 
 returns : tie.Need-returns
 returns c =
-    let report = c .before .before .before .before .before .write-report in
-    (ap length-said (sym (c .before .length .given .1)) ∙ is-length _ _ _ (report .ensures .0) (omega arith), report .ensures .1)
+    let asked = report (c .before .before .before) .write-report in
+    (ap length-said (sym (c .before .length .given .1)) ∙ is-length _ _ _ (asked .ensures .0) (omega arith), asked .ensures .1)
 
 same-length-2 : tie.Need-same-length-2
 same-length-2 c = search needs
 
 returns-2 : tie.Need-returns-2
 returns-2 c =
-    let report = c .before .before .before .before .write-report in
-    (ap length-said (sym (c .enum-told .given .1)) ∙ is-length _ _ _ (report .ensures .0) (omega arith), report .ensures .1)
+    let asked = report (c .before .before) .write-report in
+    (ap length-said (sym (c .enum-told .given .1)) ∙ is-length _ _ _ (asked .ensures .0) (omega arith), asked .ensures .1)
 
 pub report-length-spec : {M : Type 1} → statement M
 report-length-spec =

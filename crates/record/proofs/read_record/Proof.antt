@@ -16,11 +16,14 @@ use borrow.Author.Needs.{needs}
 use Rattle.record.proofs.read_record.Statement.{statement}
 use Rattle.record.proofs.read_record.Tie as tie
 
+abbrev begin : tie.After-read-header → tie.Start
+begin c = c .before .before .before
+
 abbrev bytes : tie.After-answer → List ℕ
-bytes c = c .before .before .before .before .before .args .bytes .now
+bytes c = begin (c .before .before) .args .bytes .now
 
 abbrev row : tie.After-answer → List ℕ
-row c = c .before .before .before .before .before .args .samples .now
+row c = begin (c .before .before) .args .samples .now
 
 -- the header is fine, and what was read is what it says
 said :
@@ -37,7 +40,10 @@ count c = ap (λ (h : Header). h .count) (said c .1)
 abbrev heading : tie.After-read-body → tie.After-answer
 heading c = c .before .before .before .before
 
--- then what the body's check gives is what the reader's does
+abbrev body-read : tie.After-slice-known2 → tie.After-read-body
+body-read c = c .before .before
+
+-- what the body's check gives is what the reader's does
 checked : (c : tie.After-read-body) → readCheck (bytes (heading c)) (length (row (heading c))) ≡ c .read-body .result
 checked c =
     let answer = heading c in
@@ -56,7 +62,7 @@ enum-told c = search needs
 
 returns : tie.Need-returns
 returns c =
-    let bytes = c .before .before .before .before .before .args .bytes .now in
+    let bytes = begin (c .before .before) .args .bytes .now in
     let refusal = c .enum-told .given .0 .0 in
     let told = c .enum-told .given .1 in
     let answer = sym (c .before .before .read-header .ensures) ∙ told in
@@ -84,7 +90,7 @@ same-length c = search needs
 
 returns-2 : tie.Need-returns-2
 returns-2 c =
-    let body = c .before .before .before .before in
+    let body = body-read (c .before .before) in
     let answer = heading body in
     let told = c .enum-told2 .given .1 in
     let e = checked body ∙ told in
@@ -98,7 +104,7 @@ same-length-2 c = search needs
 
 returns-3 : tie.Need-returns-3
 returns-3 c =
-    let body = c .before .before .before .before .before in
+    let body = body-read (c .before .before .before) in
     let told = c .before .refusal .given .1 in
     let e = checked body ∙ told in
     (rw e, rw e (rw (sym (body .read-body .ensures .0) ∙ told) at (body .read-body .ensures .1)))

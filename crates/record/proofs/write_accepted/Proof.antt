@@ -14,6 +14,13 @@ use Rattle.record.proofs.Accepted.{written}
 use Rattle.record.proofs.write_accepted.Statement.{statement}
 use Rattle.record.proofs.write_accepted.Tie as tie
 
+abbrev begin : tie.After-length-of → tie.Start
+begin c = c .before .before .before
+
+-- where the samples are packed, the header was made
+abbrev head : tie.After-pack-arg → tie.After-header-number
+head c = c .before .before .before .before .before
+
 grid : (c : tie.Start) → OnGrid (c .args .start) (c .args .step) (length (c .args .samples .now))
 grid c = on-grid (c .args .start) (c .args .step) (c .args .samples .now) (c .pre)
 
@@ -22,45 +29,41 @@ length-of-requires c κs = grid (c .before .before) .many
 
 returns : tie.Need-returns
 returns c =
-    let start = c .before .before .before .before in
+    let start = begin (c .before) in
     let short = lt-leb (lengthOf (length (start .args .samples .now))) (length (start .args .bytes .now)) (rw (← c .before .length-of .ensures) (c .if1 .taken)) in
     (rw (start .pre, short), rw (start .pre, short))
 
 header-number-requires : tie.Need-header-number-requires
-header-number-requires c κs = let g = grid (c .before .before .before .before) in omega arith
+header-number-requires c κs = let g = grid (begin (c .before)) in omega arith
 
 put-three-requires : tie.Need-put-three-requires
 put-three-requires c κs = search needs
 
 pack-requires : tie.Need-pack-requires
 pack-requires c κs =
-    let start = c .before .before .before .before .before .before .before .before .before .before in
-    let kept = c .before .before .before .put-three .kept .0 in
-    let long = c .before .before .before .before .before .before .before .length-of .ensures in
-    let room = c .before .before .before .before .before .before .if1 .left in
-    (within (start .args .start) (start .args .step) (start .args .samples .now) (start .pre), grid start .many, omega (arith, kept, long, room))
+    let start = begin (head c .before .before) in
+    (within (start .args .start) (start .args .step) (start .args .samples .now) (start .pre), grid start .many, omega arith)
 
 cast-t16 : tie.Need-cast-t16
-cast-t16 c =
-    let head = c .before .before .before .before .before .before .before .before in
-    omega (arith, head .before .before .length-of .ensures, grid (head .before .before .before .before .before) .many)
+cast-t16 c = let g = grid (begin (head (c .before .before .before) .before .before)) in omega arith
 
 same-length : tie.Need-same-length
 same-length c = search needs
 
 returns-2 : tie.Need-returns-2
 returns-2 c =
-    let head = c .before .before .before .before .before .before .before .before in
-    let start = head .before .before .before .before .before in
+    let ready = c .before .before .before in
+    let made = head ready in
+    let start = begin (made .before .before) in
     let bytes = start .args .bytes .now in
     let xs = start .args .samples .now in
-    let long = head .before .before .length-of .ensures in
-    let room = le-leb (lengthOf (length xs)) (length bytes) (rw (← long) (head .before .if1 .left)) in (
+    let long = made .before .before .length-of .ensures in
+    let room = le-leb (lengthOf (length xs)) (length bytes) (rw (← long) (made .before .if1 .left)) in (
       rw (start .pre, room, long),
       rw (start .pre, room)
           (c .before .before .pack .ensures
-          ∙ ap (λ (b : List ℕ). stored b 3 (bodyOf xs)) (c .before .before .before .before .before .before .put-three .ensures)
-          ∙ written (start .args .start) (start .args .step) xs (start .pre) (head .header-number .result) bytes (head .header-number .ensures)),
+          ∙ ap (λ (b : List ℕ). stored b 3 (bodyOf xs)) (ready .before .before .before .put-three .ensures)
+          ∙ written (start .args .start) (start .args .step) xs (start .pre) (made .header-number .result) bytes (made .header-number .ensures)),
     )
 
 pub write-accepted-spec : {M : Type 1} → statement M

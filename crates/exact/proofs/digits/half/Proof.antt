@@ -1,7 +1,7 @@
 -- Long division by 2, digit by digit.
 use Prim.Native.Nat.{_^_}
 use lib.Dec.{lit<}
-use Rattle.exact.specs.Value.{short, long}
+use Rattle.exact.specs.Value.{short}
 use Rattle.exact.proofs.Carry.{halves}
 use borrow.Author.Needs.{needs}
 use Rattle.exact.proofs.digits.half.Statement.{statement}
@@ -36,7 +36,7 @@ cast-t9 c = search needs
 
 returns : tie.Need-returns
 unfolding short
-returns c = let a = c .before .before .before .before .args .a in halves (2 ^ 32) (lit< tt) (a .high) (a .middle) (a .low)
+returns c = halves (2 ^ 32) (lit< tt) _ _ _
 
 pub half-spec : {M : Type 1} → statement M
 half-spec =

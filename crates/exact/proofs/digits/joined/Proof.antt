@@ -2,7 +2,7 @@
 use Prim.Native.Nat.{_+_, _/_, _%_, _^_, _<_}
 use lib.Dec.{lit<}
 use native.Mathlib.Omega.{arith}
-use Rattle.exact.specs.Value.{short, long}
+use Rattle.exact.specs.Value.{short}
 use Rattle.exact.proofs.Carry.{joined}
 use borrow.Author.Needs.{needs}
 use Rattle.exact.proofs.digits.joined.Statement.{statement}

@@ -1,8 +1,8 @@
 -- What is cut to 32 bits is no larger.
 use Prim.Native.Nat.{_*_, _≤_}
 use native.Mathlib.Omega.{arith}
-use native.Mathlib.Nat.{mul-le-mul-right, le-trans}
-use Rattle.exact.specs.Value.{short, long}
+use native.Mathlib.Nat.{mul-le-mul-right}
+use Rattle.exact.specs.Value.{short}
 use borrow.Author.Needs.{needs}
 use Rattle.exact.proofs.divide.estimate.Statement.{statement}
 use Rattle.exact.proofs.divide.estimate.Tie as tie

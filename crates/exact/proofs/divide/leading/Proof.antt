@@ -1,6 +1,6 @@
 -- The leading digits of n hold no more than n, and those of d with one more no less than d.
 use Prim.Native.Nat.{ℕ, _*_, _+_, _/_, _^_, _<_, _≤_}
-use mathlib.Core.Path.{_≡_, sym}
+use mathlib.Core.Path.{_≡_}
 use native.Mathlib.Omega.{arith}
 use Rattle.exact.specs.Value.{short, long}
 use Rattle.exact.proofs.Quotient.{leading}
@@ -23,14 +23,11 @@ high-fits h l = omega arith
 high-holds : (x y z : ℕ) → y < 2 ^ 32 → z < 2 ^ 32 → (x * 2 ^ 32 + y) * 2 ^ 32 + z ≤ (x + 1) * 2 ^ 64
 high-holds x y z p q = omega arith
 
-d-low : (c : tie.Start) → c .args .d .low < 2 ^ 32
-d-low c = omega arith
-
-d-middle : (c : tie.Start) → c .args .d .middle < 2 ^ 32
-d-middle c = omega arith
+abbrev begin : tie.After-struct-known → tie.Start
+begin c = c .before .before .before .before
 
 -- where the high digit is 0 the other two are all of d
-alone : (c : tie.After-struct-known) → short (c .before .before .before .before .args .d) ≡ c .before .pair .result
+alone : (c : tie.After-struct-known) → short (begin c .args .d) ≡ c .before .pair .result
 unfolding short
 alone c = omega arith
 
@@ -38,17 +35,13 @@ pair-requires : tie.Need-pair-requires
 pair-requires c κs = search needs
 
 div-result : tie.Need-div-result
-div-result c =
-    let e = alone c in
-    let pos : 0 < short (c .before .before .before .before .args .d) = c .before .before .before .before .pre in
-    omega arith
+div-result c = omega (arith, alone c, begin c .pre)
 
 returns : tie.Need-returns
 unfolding long
 returns c =
-    let n = c .before .before .before .before .args .n in
-    leading 1 (n .low) (c .before .pair .result) (long n) (short (c .before .before .before .before .args .d)) (low-fits (n .high) (n .low))
-    (let e = alone c in omega arith)
+    let n = begin c .args .n in
+    leading 1 (n .low) (c .before .pair .result) (long n) (short (begin c .args .d)) (low-fits (n .high) (n .low)) (omega (arith, alone c))
 
 returns-2 : tie.Need-returns-2
 returns-2 c = search needs
@@ -71,10 +64,12 @@ div-result-2 c = search needs
 returns-3 : tie.Need-returns-3
 unfolding short long
 returns-3 c =
-    let n = c .before .before .before .before .args .n in
-    let d = c .before .before .before .before .args .d in
+    let wide = c .before .before in
+    let start = wide .before .before in
+    let n = start .args .n in
+    let d = start .args .d in
     leading (2 ^ 33) (n .high * 2147483648 + n .low / 8589934592) (c .pair2 .result / 2 + 1) (long n) (short d)
-    (middle-fits (n .high) (n .low)) (rw (c .pair2 .ensures) (middle-holds (d .high) (d .middle) (d .low) (d-low (c .before .before .before .before))))
+    (middle-fits (n .high) (n .low)) (rw (c .pair2 .ensures) (middle-holds (d .high) (d .middle) (d .low) (omega arith)))
 
 cast-result : tie.Need-cast-result
 cast-result c = search needs
@@ -91,7 +86,7 @@ returns-4 c =
     let n = c .before .before .args .n in
     let d = c .before .before .args .d in
     leading (2 ^ 64) (n .high) (d .high + 1) (long n) (short d)
-    (high-fits (n .high) (n .low)) (high-holds (d .high) (d .middle) (d .low) (d-middle (c .before .before)) (d-low (c .before .before)))
+    (high-fits (n .high) (n .low)) (high-holds (d .high) (d .middle) (d .low) (omega arith) (omega arith))
 
 pub leading-spec : {M : Type 1} → statement M
 leading-spec =

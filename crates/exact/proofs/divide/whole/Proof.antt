@@ -1,4 +1,4 @@
--- The digits are the same.
+-- The two lower digits of 32 bits are one digit of 64, and the high digit stays.
 use native.Mathlib.Omega.{arith}
 use Rattle.exact.specs.Value.{short, long}
 use borrow.Author.Needs.{needs}

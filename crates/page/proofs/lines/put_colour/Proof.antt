@@ -1,11 +1,28 @@
 -- Two lines of coordinates, or the two of a dark light as one word.
+use mathlib.Core.Path.{_≡_}
+use Prim.Native.Nat.{_+_}
 use native.Mathlib.Omega.{arith}
-use lib.ListN.{length-append}
-use Rattle.page.specs.Report.{line, colourLines}
+use lib.ListN.{length, length-append}
+use Rattle.answers.specs.declared.Xy.{Xy}
+use Rattle.answers.specs.declared.XyAnswer.{XyAnswer}
+use Rattle.page.specs.Text.{ascii}
+use Rattle.page.specs.Report.{coordinate, line, colourLines}
 use Rattle.page.proofs.Joined.{joined}
 use borrow.Author.Needs.{needs}
 use Rattle.page.proofs.lines.put_colour.Statement.{statement}
 use Rattle.page.proofs.lines.put_colour.Tie as tie
+
+long :
+    (xy : XyAnswer) (v : Xy) → xy ≡ XyAnswer.Value v →
+    length (colourLines xy) ≡ length (line (ascii "x ") (coordinate (v .x))) + length (line (ascii "y ") (coordinate (v .y)))
+unfolding colourLines
+long xy v e = rw e (simp length-append)
+
+abbrev first : tie.After-put-line-arg4 → tie.After-put-line
+first c = c .before .before .before .before
+
+abbrev lit : tie.After-put-line → tie.After-xy
+lit c = c .before .before .before .before
 
 enum-known-xy : tie.Need-enum-known-xy
 enum-known-xy c = search needs
@@ -14,21 +31,13 @@ slice-aggregate-put-line : tie.Need-slice-aggregate-put-line
 slice-aggregate-put-line c = search needs
 
 put-line-requires : tie.Need-put-line-requires
-unfolding colourLines
-put-line-requires c κs =
-    let xy = c .before .before .before in
-    let room = simp length-append at (rw (xy .xy .given .1) at (xy .before .before .before .pre)) in
-    omega arith
+put-line-requires c κs = omega (arith, long _ _ (c .before .before .before .xy .given .1))
 
 slice-aggregate-put-line-2 : tie.Need-slice-aggregate-put-line-2
 slice-aggregate-put-line-2 c = search needs
 
 put-line-requires-2 : tie.Need-put-line-requires-2
-unfolding colourLines
-put-line-requires-2 c κs =
-    let xy = c .before .before .before .before .before .before .before .before in
-    let room = simp length-append at (rw (xy .xy .given .1) at (xy .before .before .before .pre)) in
-    omega arith
+put-line-requires-2 c κs = omega (arith, long _ _ (lit (first c) .xy .given .1))
 
 enum-told : tie.Need-enum-told
 enum-told c = search needs
@@ -38,7 +47,7 @@ slice-aggregate-put c = search needs
 
 put-requires : tie.Need-put-requires
 unfolding colourLines line
-put-requires c κs = rw (c .before .before .enum-told .given .1) at (c .before .before .before .before .before .pre)
+put-requires c κs = let dark = c .before .before in rw (dark .enum-told .given .1) at (dark .before .before .before .pre)
 
 same-length : tie.Need-same-length
 same-length c = search needs
@@ -46,15 +55,15 @@ same-length c = search needs
 returns : tie.Need-returns
 unfolding colourLines
 returns c =
-    let first = c .before .before .before .before .before .before .before in
-    rw (first .before .before .before .before .xy .given .1) (joined (first .put-line .ensures) (c .before .before .put-line2 .ensures))
+    let x = first (c .before .before .before) in
+    rw (lit x .xy .given .1) (joined (x .put-line .ensures) (c .before .before .put-line2 .ensures))
 
 same-length-2 : tie.Need-same-length-2
 same-length-2 c = search needs
 
 returns-2 : tie.Need-returns-2
 unfolding colourLines line
-returns-2 c = rw (c .before .before .before .before .before .enum-told .given .1) (c .before .before .put .ensures)
+returns-2 c = let dashes = c .before .before in rw (dashes .before .before .before .enum-told .given .1) (dashes .put .ensures)
 
 pub put-colour-spec : {M : Type 1} → statement M
 put-colour-spec =

@@ -7,60 +7,63 @@ use borrow.Author.Needs.{needs}
 use Rattle.page.proofs.lines.put_figures.Statement.{statement}
 use Rattle.page.proofs.lines.put_figures.Tie as tie
 
--- where the function began, from the place behind each line
-abbrev from-first : tie.After-put-line → tie.Start
-from-first c = c .before .before .before .before .before
+abbrev begin : tie.After-put-line-arg2 → tie.Start
+begin c = c .before .before .before .before
 
-abbrev from-second : tie.After-put-line2 → tie.Start
-from-second c = from-first (c .before .before .before .before .before)
+-- what was known before each line, from what is known behind it
+abbrev first : tie.After-slice-known2 → tie.After-put-line-arg2
+first c = c .before .before .before
 
-abbrev from-third : tie.After-put-line3 → tie.Start
-from-third c = from-second (c .before .before .before .before .before)
+abbrev second : tie.After-slice-known3 → tie.After-slice-known2
+second c = c .before .before .before .before .before
 
-abbrev from-fourth : tie.After-put-line4 → tie.Start
-from-fourth c = from-third (c .before .before .before .before .before)
+abbrev third : tie.After-slice-known4 → tie.After-slice-known3
+third c = c .before .before .before .before .before
 
-abbrev from-fifth : tie.After-put-line5 → tie.Start
-from-fifth c = from-fourth (c .before .before .before .before .before)
+abbrev fourth : tie.After-slice-known5 → tie.After-slice-known4
+fourth c = c .before .before .before .before .before
+
+abbrev fifth : tie.After-slice-known6 → tie.After-slice-known5
+fifth c = c .before .before .before .before .before
 
 slice-aggregate-put-line : tie.Need-slice-aggregate-put-line
 slice-aggregate-put-line c = search needs
 
 put-line-requires : tie.Need-put-line-requires
 unfolding figureLines
-put-line-requires c κs = let room = simp length-append at (c .before .before .before .before .pre) in omega arith
+put-line-requires c κs = let room = simp length-append at (begin c .pre) in omega arith
 
 slice-aggregate-put-line-2 : tie.Need-slice-aggregate-put-line-2
 slice-aggregate-put-line-2 c = search needs
 
 put-line-requires-2 : tie.Need-put-line-requires-2
 unfolding figureLines
-put-line-requires-2 c κs = let room = simp length-append at (from-first (c .before .before .before .before) .pre) in omega arith
+put-line-requires-2 c κs = let room = simp length-append at (begin (first (c .before .before)) .pre) in omega arith
 
 slice-aggregate-put-line-3 : tie.Need-slice-aggregate-put-line-3
 slice-aggregate-put-line-3 c = search needs
 
 put-line-requires-3 : tie.Need-put-line-requires-3
 unfolding figureLines
-put-line-requires-3 c κs = let room = simp length-append at (from-second (c .before .before .before .before) .pre) in omega arith
+put-line-requires-3 c κs = let room = simp length-append at (begin (first (second (c .before .before))) .pre) in omega arith
 
 slice-aggregate-put-line-4 : tie.Need-slice-aggregate-put-line-4
 slice-aggregate-put-line-4 c = search needs
 
 put-line-requires-4 : tie.Need-put-line-requires-4
 unfolding figureLines
-put-line-requires-4 c κs = let room = simp length-append at (from-third (c .before .before .before .before) .pre) in omega arith
+put-line-requires-4 c κs = let room = simp length-append at (begin (first (second (third (c .before .before)))) .pre) in omega arith
 
 slice-aggregate-put-line-5 : tie.Need-slice-aggregate-put-line-5
 slice-aggregate-put-line-5 c = search needs
 
 put-line-requires-5 : tie.Need-put-line-requires-5
 unfolding figureLines
-put-line-requires-5 c κs = let room = simp length-append at (from-fourth (c .before .before .before .before) .pre) in omega arith
+put-line-requires-5 c κs = let room = simp length-append at (begin (first (second (third (fourth (c .before .before))))) .pre) in omega arith
 
 put-colour-requires : tie.Need-put-colour-requires
 unfolding figureLines
-put-colour-requires c κs = let room = simp length-append at (from-fifth (c .before .before .before) .pre) in omega arith
+put-colour-requires c κs = let room = simp length-append at (begin (first (second (third (fourth (fifth (c .before)))))) .pre) in omega arith
 
 same-length : tie.Need-same-length
 same-length c = search needs
@@ -68,20 +71,21 @@ same-length c = search needs
 returns : tie.Need-returns
 unfolding figureLines
 returns c =
-    let fifth = c .before .before .before .before .before .before in
-    let fourth = fifth .before .before .before .before .before in
-    let third = fourth .before .before .before .before .before in
-    let second = third .before .before .before .before .before in
-    let first = second .before .before .before .before .before in
+    let colour = c .before .before in
+    let z = colour .before .before in
+    let y = fifth z in
+    let x = fourth y in
+    let night = third x in
+    let day = second night in
     joined
     (joined
     (joined
     (joined
-    (joined (first .put-line .ensures) (second .put-line2 .ensures))
-    (third .put-line3 .ensures))
-    (fourth .put-line4 .ensures))
-    (fifth .put-line5 .ensures))
-    (c .before .before .put-colour .ensures)
+    (joined (day .before .before .put-line .ensures) (night .before .before .put-line2 .ensures))
+    (x .before .before .put-line3 .ensures))
+    (y .before .before .put-line4 .ensures))
+    (z .before .before .put-line5 .ensures))
+    (colour .put-colour .ensures)
 
 pub put-figures-spec : {M : Type 1} → statement M
 put-figures-spec =

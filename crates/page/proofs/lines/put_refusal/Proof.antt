@@ -1,23 +1,41 @@
 -- The number, and behind it the place where the number is 4.
-use mathlib.Core.Path.{_≡_, ap}
+use mathlib.Core.Path.{_≡_}
 use mathlib.Core.List.{_++_, append-nil}
+use Prim.Native.Nat.{_+_}
 use native.Mathlib.Omega.{arith}
 use borrow.Author.Tests.{eq-eqb, ne-eqb}
 use lib.ListN.{length, length-append}
 use Rattle.grid.specs.declared.Refusal.{Refusal}
-use Rattle.page.specs.Report.{at, decimal, numbered}
+use Rattle.page.specs.Text.{ascii}
+use Rattle.page.specs.Report.{decimal, numbered}
 use Rattle.page.proofs.Joined.{joined}
 use borrow.Author.Needs.{needs}
 use Rattle.page.proofs.lines.put_refusal.Statement.{statement}
 use Rattle.page.proofs.lines.put_refusal.Tie as tie
 
-placed : (r : Refusal) → r .number ≡ 4 → numbered r ≡ decimal (r .number) ++ (at ++ decimal (r .place))
+placed : (r : Refusal) → r .number ≡ 4 → numbered r ≡ decimal (r .number) ++ (ascii " at " ++ decimal (r .place))
 unfolding numbered
 placed r e = rw (eq-eqb (r .number) 4 e)
+
+long : (r : Refusal) → r .number ≡ 4 → length (numbered r) ≡ length (decimal (r .number)) + (4 + length (decimal (r .place)))
+long r e = rw (placed r e) (simp length-append)
 
 unplaced : (r : Refusal) → (r .number ≡ 4 → ⊥) → numbered r ≡ decimal (r .number)
 unfolding numbered
 unplaced r h = rw (ne-eqb (r .number) 4 h, append-nil)
+
+abbrev begin : tie.After-put-number → tie.Start
+begin c = c .before .before .before .before
+
+-- the number stands before the test, and with its place for 4 the word between them
+abbrev number : tie.After-struct-known2 → tie.After-put-number
+number c = c .before .before .before
+
+abbrev refusal : tie.After-struct-known2 → Refusal
+refusal c = begin (number c) .args .refusal
+
+abbrev between : tie.After-struct-known3 → tie.After-put
+between c = c .before .before .before .before
 
 cast-put-number : tie.Need-cast-put-number
 cast-put-number c = search needs
@@ -30,38 +48,29 @@ slice-aggregate-put : tie.Need-slice-aggregate-put
 slice-aggregate-put c = search needs
 
 put-requires : tie.Need-put-requires
-put-requires c κs =
-    let start = c .before .before .before .before .before .before .before .before .before .before in
-    let more = simp length-append at (ap length (placed (start .args .refusal) (c .before .before .if1 .taken))) in
-    omega (arith, start .pre, more)
+put-requires c κs = let taken = c .before .before in omega (arith, long (refusal (taken .before)) (taken .if1 .taken))
 
 cast-put-number-2 : tie.Need-cast-put-number-2
 cast-put-number-2 c = search needs
 
 put-number-requires-2 : tie.Need-put-number-requires-2
-put-number-requires-2 c κs =
-    let taken = c .before .before .before .before .before .before .before in
-    let start = taken .before .before .before .before .before .before .before .before in
-    let more = simp length-append at (ap length (placed (start .args .refusal) (taken .if1 .taken))) in
-    omega (arith, start .pre, more)
+put-number-requires-2 c κs = let taken = between c .before .before .before in omega (arith, long (refusal (taken .before)) (taken .if1 .taken))
 
 same-length : tie.Need-same-length
 same-length c = search needs
 
 returns : tie.Need-returns
 returns c =
-    let taken = c .before .before .before .before .before .before .before .before .before .before in
-    let number = taken .before .before .before .before in
-    rw (placed (number .before .before .before .before .args .refusal) (taken .if1 .taken))
-    (joined (number .put-number .ensures) (joined (c .before .before .before .before .before .before .before .put .ensures) (c .before .before .put-number2 .ensures)))
+    let word = between (c .before .before .before) in
+    let taken = word .before .before .before in
+    rw (placed (refusal (taken .before)) (taken .if1 .taken))
+    (joined (number (taken .before) .put-number .ensures) (joined (word .put .ensures) (c .before .before .put-number2 .ensures)))
 
 same-length-2 : tie.Need-same-length-2
 same-length-2 c = search needs
 
 returns-2 : tie.Need-returns-2
-returns-2 c =
-    let number = c .before .before .before .before in
-    rw (unplaced (number .before .before .before .before .args .refusal) (c .if1 .left)) (number .put-number .ensures)
+returns-2 c = rw (unplaced (refusal (c .before)) (c .if1 .left)) (number (c .before) .put-number .ensures)
 
 pub put-refusal-spec : {M : Type 1} → statement M
 put-refusal-spec =

@@ -10,7 +10,7 @@ enum-known-answer c = search needs
 
 put-figures-requires : tie.Need-put-figures-requires
 unfolding textOf
-put-figures-requires c κs = rw (c .before .before .answer .given .1) at (c .before .before .before .before .before .pre)
+put-figures-requires c κs = let arm = c .before .before in rw (arm .answer .given .1) at (arm .before .before .before .pre)
 
 enum-known-answer-2 : tie.Need-enum-known-answer-2
 enum-known-answer-2 c = search needs
@@ -20,21 +20,24 @@ slice-aggregate-put-line c = search needs
 
 put-line-requires : tie.Need-put-line-requires
 unfolding textOf
-put-line-requires c κs = let room = rw (c .before .before .before .answer2 .given .1) at (c .before .before .before .before .before .before .pre) in omega arith
+put-line-requires c κs =
+    let arm = c .before .before .before in
+    let room = rw (arm .answer2 .given .1) at (arm .before .before .before .pre) in
+    omega arith
 
 same-length : tie.Need-same-length
 same-length c = search needs
 
 returns : tie.Need-returns
 unfolding textOf
-returns c = rw (c .before .before .before .before .before .answer .given .1) (c .before .before .put-figures .ensures)
+returns c = let put = c .before .before in rw (put .before .before .before .answer .given .1) (put .put-figures .ensures)
 
 same-length-2 : tie.Need-same-length-2
 same-length-2 c = search needs
 
 returns-2 : tie.Need-returns-2
 unfolding textOf
-returns-2 c = rw (c .before .before .before .before .before .before .answer2 .given .1) (c .before .before .put-line .ensures)
+returns-2 c = let ready = c .before .before .before in rw (ready .before .before .before .answer2 .given .1) (c .before .before .put-line .ensures)
 
 pub put-text-spec : {M : Type 1} → statement M
 put-text-spec =

@@ -39,44 +39,49 @@ put-number-slice-aggregate-put t c = refl
 
 put-number-put-requires : (t : ℕ) → put-number-lts.Need-put-requires (claims t) (put-number-at t) put-number.Post
 put-number-put-requires t c κs =
-    let start = c .before .before .before .before .before in
-    omega (arith, start .pre .1, ap length (decimal-one (start .args .n) (c .before .before .if1 .taken)))
+    let short = c .before .before in
+    let start = short .before .before .before in
+    omega (arith, start .pre .1, ap length (decimal-one (start .args .n) (short .if1 .taken)))
 
 put-number-same-length : (t : ℕ) → put-number-lts.Need-same-length (claims t) (put-number-at t) put-number.Post
 put-number-same-length t c = search needs
 
 put-number-returns : (t : ℕ) → put-number-lts.Need-returns (claims t) (put-number-at t) put-number.Post
 put-number-returns t c =
-    let short = c .before .before .before .before .before in
-    rw (decimal-one (short .before .before .before .args .n) (short .if1 .taken), ← short .before .digit .ensures) (c .before .before .put .ensures)
+    let put = c .before .before in
+    let short = put .before .before .before in
+    rw (decimal-one (short .before .before .before .args .n) (short .if1 .taken), ← short .before .digit .ensures) (put .put .ensures)
 
 put-number-put-number-requires : (t : ℕ) → put-number-lts.Need-put-number-requires (claims t) (put-number-at t) put-number.Post
 put-number-put-number-requires t c κs =
-    let start = c .before .before .before .before in
-    let n = start .args .n in
-    let more = simp length-append at (ap length (decimal-more n (c .before .if1 .left) (omega arith))) in
-    (omega (arith, start .pre .0, c .before .if1 .left), omega (arith, start .pre .1, more))
+    let long = c .before in
+    let start = long .before .before .before in
+    let more = simp length-append at (ap length (decimal-more (start .args .n) (long .if1 .left) (omega arith))) in
+    (omega (arith, start .pre .0, long .if1 .left), omega (arith, start .pre .1, more))
 
 put-number-slice-aggregate-put-2 : (t : ℕ) → put-number-lts.Need-slice-aggregate-put-2 (claims t) (put-number-at t) put-number.Post
 put-number-slice-aggregate-put-2 t c = refl
 
 put-number-put-requires-2 : (t : ℕ) → put-number-lts.Need-put-requires-2 (claims t) (put-number-at t) put-number.Post
 put-number-put-requires-2 t c κs =
-    let start = c .before .before .before .before .before .before .before .before .before in
-    let n = start .args .n in
-    let end = c .before .before .before .before .put-number in
-    let more = simp length-append at (ap length (decimal-more n (c .before .before .before .before .before .before .if1 .left) (omega arith))) in
-    omega (arith, start .pre .1, more, end .ensures .ends, end .kept .0)
+    let behind = c .before .before .before in
+    let long = behind .before .before .before in
+    let start = long .before .before .before in
+    let more = simp length-append at (ap length (decimal-more (start .args .n) (long .if1 .left) (omega arith))) in
+    omega (arith, start .pre .1, more)
 
 put-number-same-length-2 : (t : ℕ) → put-number-lts.Need-same-length-2 (claims t) (put-number-at t) put-number.Post
 put-number-same-length-2 t c = search needs
 
 put-number-returns-2 : (t : ℕ) → put-number-lts.Need-returns-2 (claims t) (put-number-at t) put-number.Post
 put-number-returns-2 t c =
-    let long = c .before .before .before .before .before .before .before .before .before in
+    let put = c .before .before in
+    let behind = put .before .before .before in
+    let rest = behind .before .before in
+    let long = rest .before .before in
     let start = long .before .before .before in
     rw (decimal-more (start .args .n) (long .if1 .left) (omega (arith, start .fits .n)), ← long .before .digit .ensures)
-    (joined (c .before .before .before .before .before .before .before .put-number .ensures) (c .before .before .put2 .ensures))
+    (joined (rest .put-number .ensures) (put .put2 .ensures))
 
 pub +put-number-spec : {M : Type 1} → statement M
 +put-number-spec = close μ-put-number λ t. put-number-lts.spec (claims t)

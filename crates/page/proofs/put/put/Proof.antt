@@ -36,14 +36,13 @@ loop-less c = omega arith
 
 loop-again : tie.Need-loop-again Inv-loop μ-loop
 loop-again c =
-    let text = c .before .before .before .args .text .now in
-    let word = c .before .before .before .args .word .now in
-    let at = c .before .before .before .args .at in
-    let k = c .before .before .loop .k in (
+    let loop = c .before .before .loop in
+    let given = c .before .before .before .args in
+    let word = given .word .now in (
       omega arith,
-      ap (λ (t : List ℕ). set t (at + k) (getD word k 0)) (c .before .before .loop .inv .1)
-          ∙ rw add-one (paste-suc text at word k 0 (omega arith) (omega arith)),
-      simp length-set (c .before .before .loop .inv .2),
+      ap (λ (t : List ℕ). set t (given .at + loop .k) (getD word (loop .k) 0)) (loop .inv .1)
+          ∙ rw add-one (paste-suc (given .text .now) (given .at) word (loop .k) 0 (omega arith) (omega arith)),
+      simp length-set (loop .inv .2),
     )
 
 add-result : tie.Need-add-result Inv-loop μ-loop
@@ -54,13 +53,12 @@ same-length c = c .before .loop .inv .2
 
 returns : tie.Need-returns Inv-loop μ-loop
 returns c =
-    let text = c .before .before .args .text .now in
-    let word = c .before .before .args .word .now in
-    let k = c .before .loop .k in
+    let start = c .before .before in
+    let given = start .args in
     record {
-      room = c .before .before .pre;
+      room = start .pre;
       ends = refl;
-      text = c .before .loop .inv .1 ∙ paste-all text word (c .before .before .args .at) k (omega arith);
+      text = c .before .loop .inv .1 ∙ paste-all (given .text .now) (given .word .now) (given .at) (c .before .loop .k) (omega arith);
     }
 
 pub put-spec : {M : Type 1} → statement M

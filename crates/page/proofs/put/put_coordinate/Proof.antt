@@ -7,6 +7,12 @@ use borrow.Author.Needs.{needs}
 use Rattle.page.proofs.put.put_coordinate.Statement.{statement}
 use Rattle.page.proofs.put.put_coordinate.Tie as tie
 
+abbrev begin : tie.After-digit5 → tie.Start
+begin c = c .before .before .before .before .before .before
+
+abbrev whole-part : tie.After-places → tie.After-put-number
+whole-part c = c .before .before .before .before
+
 digit-requires : tie.Need-digit-requires
 digit-requires c κs = search needs
 
@@ -24,14 +30,14 @@ digit-requires-5 c κs = search needs
 
 put-number-requires : tie.Need-put-number-requires
 unfolding coordinate
-put-number-requires c κs = let room = simp length-append at (c .before .before .before .before .before .before .before .pre) in omega arith
+put-number-requires c κs = let room = simp length-append at (begin (c .before) .pre) in omega arith
 
 slice-aggregate-put : tie.Need-slice-aggregate-put
 slice-aggregate-put c = search needs
 
 put-requires : tie.Need-put-requires
 unfolding coordinate
-put-requires c κs = let room = simp length-append at (c .before .before .before .before .before .before .before .before .before .before .before .before .pre) in omega arith
+put-requires c κs = let room = simp length-append at (begin (whole-part c .before .before) .pre) in omega arith
 
 same-length : tie.Need-same-length
 same-length c = search needs
@@ -39,10 +45,12 @@ same-length c = search needs
 returns : tie.Need-returns
 unfolding coordinate
 returns c =
-    let digits = c .before .before .before .before .before .before .before .before .before in
+    let whole = whole-part (c .before .before .before) in
+    let digits = whole .before .before in
+    let two = digits .before .before .before in
     rw
-    (← digits .before .before .before .before .digit .ensures, ← digits .before .before .before .digit2 .ensures, ← digits .before .before .digit3 .ensures, ← digits .before .digit4 .ensures, ← digits .digit5 .ensures)
-    (joined (c .before .before .before .before .before .before .before .put-number .ensures) (c .before .before .put .ensures))
+    (← two .before .digit .ensures, ← two .digit2 .ensures, ← digits .before .before .digit3 .ensures, ← digits .before .digit4 .ensures, ← digits .digit5 .ensures)
+    (joined (whole .put-number .ensures) (c .before .before .put .ensures))
 
 pub put-coordinate-spec : {M : Type 1} → statement M
 put-coordinate-spec =

@@ -39,12 +39,12 @@ loop-less c = omega arith
 
 loop-again : tie.Need-loop-again Inv-loop μ-loop
 loop-again c =
-    let row = c .before .before .before .args .row .now in
-    let samples = c .before .before .before .args .samples .now in
-    let k = c .before .before .loop .k in (
+    let loop = c .before .before .loop in
+    let given = c .before .before .before .args in
+    let row = given .row .now in (
       omega arith,
-      ap (λ (s : List ℕ). set s k (getD row k 0)) (c .before .before .loop .inv .1) ∙ front-more samples row k (omega arith) (c .before .before .before .pre),
-      simp length-set (c .before .before .loop .inv .2),
+      ap (λ (s : List ℕ). set s (loop .k) (getD row (loop .k) 0)) (loop .inv .1) ∙ front-more (given .samples .now) row (loop .k) (omega arith) (c .before .before .before .pre),
+      simp length-set (loop .inv .2),
     )
 
 same-length : tie.Need-same-length Inv-loop μ-loop

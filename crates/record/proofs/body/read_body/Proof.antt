@@ -8,37 +8,49 @@ use lib.ListN.{length, take, drop, replicate}
 use lib.Seq.{take-at}
 use Rattle.grid.specs.Check.{samplesCheck}
 use Rattle.record.specs.Answer.{bodyCheck}
-use Rattle.record.specs.Format.{samplesOf}
+use Rattle.record.specs.Format.{lengthOf, samplesOf}
 use Rattle.record.proofs.Fields.{samples-length}
 use Rattle.record.proofs.Refusals.{length-refused, padding-refused, body-passed}
 use borrow.Author.Needs.{needs}
 use Rattle.record.proofs.body.read_body.Statement.{statement}
 use Rattle.record.proofs.body.read_body.Tie as tie
 
-abbrev begin : tie.After-unpack → tie.Start
-begin c = c .before .before .before .before .before .before .before .before
+abbrev begin : tie.After-length-of → tie.Start
+begin c = c .before .before .before
+
+-- a row is unpacked behind the test of the padding
+abbrev padding : tie.After-unpack → tie.After-padding-is-clear
+padding c = c .before .before .before
+
+abbrev count : tie.After-unpack → ℕ
+count c = begin (padding c .before .before) .args .count
+
+abbrev bytes : tie.After-unpack → List ℕ
+bytes c = begin (padding c .before .before) .args .bytes .now
 
 -- the row's first count are the record's samples
-unpacked : (c : tie.After-unpack) → take (begin c .args .count) (c .unpack .last .1 .1 .0) ≡ samplesOf (begin c .args .count) (begin c .args .bytes .now)
+unpacked : (c : tie.After-unpack) → take (count c) (c .unpack .last .1 .1 .0) ≡ samplesOf (count c) (bytes c)
 unpacked c =
-    let n = begin c .args .count in
-    let bytes = begin c .args .bytes .now in
-    ap (take n) (c .unpack .ensures) ∙ take-at (samplesOf n bytes) (drop n (replicate 531 0)) n (samples-length n bytes)
+    ap (take (count c)) (c .unpack .ensures)
+    ∙ take-at (samplesOf (count c) (bytes c)) (drop (count c) (replicate 531 0)) (count c) (samples-length (count c) (bytes c))
 
-unpacked-length : (c : tie.After-unpack) → length (take (begin c .args .count) (c .unpack .last .1 .1 .0)) ≡ begin c .args .count
-unpacked-length c = ap length (unpacked c) ∙ samples-length (begin c .args .count) (begin c .args .bytes .now)
+unpacked-length : (c : tie.After-unpack) → length (take (count c) (c .unpack .last .1 .1 .0)) ≡ count c
+unpacked-length c = ap length (unpacked c) ∙ samples-length (count c) (bytes c)
+
+-- the record is as long as its count says
+whole : (c : tie.Else1) → length (begin (c .before) .args .bytes .now) ≡ lengthOf (begin (c .before) .args .count)
+whole c = c .if1 .left ∙ c .before .length-of .ensures
+
+abbrev row : tie.After-check-samples → tie.After-unpack
+row c = c .before .before .before
 
 -- what the samples' check gives is what the body's does
-checked :
-    (c : tie.After-check-samples) →
-    bodyCheck (begin (c .before .before .before) .args .count) (begin (c .before .before .before) .args .bytes .now) ≡ c .check-samples .result
+checked : (c : tie.After-check-samples) → bodyCheck (count (row c)) (bytes (row c)) ≡ c .check-samples .result
 checked c =
-    let row = c .before .before .before in
-    let start = begin row in
-    body-passed (start .args .count) (start .args .bytes .now)
-    (row .before .before .before .before .if1 .left ∙ row .before .before .before .before .before .length-of .ensures)
-    (sym (row .before .before .before .padding-is-clear .ensures) ∙ not-false _ (row .before .before .if2 .left))
-    ∙ ap samplesCheck (sym (unpacked row))
+    let clear = padding (row c) in
+    body-passed (count (row c)) (bytes (row c)) (whole (clear .before))
+    (sym (clear .padding-is-clear .ensures) ∙ not-false _ (row c .before .before .if2 .left))
+    ∙ ap samplesCheck (sym (unpacked (row c)))
     ∙ sym (c .check-samples .ensures)
 
 length-of-requires : tie.Need-length-of-requires
@@ -49,7 +61,7 @@ refused-requires c κs = search needs
 
 returns : tie.Need-returns
 returns c =
-    let start = c .before .before .before .before .before in
+    let start = begin (c .before .before) in
     let e = length-refused (start .args .count) (start .args .bytes .now) (λ p. c .before .if1 .taken (p ∙ sym (c .before .before .length-of .ensures))) in
     (rw e (c .refused .ensures), rw e)
 
@@ -61,10 +73,10 @@ refused-requires-2 c κs = search needs
 
 returns-2 : tie.Need-returns-2
 returns-2 c =
-    let start = c .before .before .before .before .before .before .before in
-    let whole = c .before .before .before .if1 .left ∙ c .before .before .before .before .length-of .ensures in
-    let set = sym (c .before .before .padding-is-clear .ensures) ∙ not-true _ (c .before .if2 .taken) in
-    let e = padding-refused (start .args .count) (start .args .bytes .now) whole set in
+    let clear = c .before .before in
+    let start = begin (clear .before .before) in
+    let set = sym (clear .padding-is-clear .ensures) ∙ not-true _ (c .before .if2 .taken) in
+    let e = padding-refused (start .args .count) (start .args .bytes .now) (whole (clear .before)) set in
     (rw e (c .refused2 .ensures), rw e)
 
 slice-aggregate-unpack : tie.Need-slice-aggregate-unpack
@@ -80,7 +92,7 @@ slice-aggregate-check-samples : tie.Need-slice-aggregate-check-samples
 slice-aggregate-check-samples c = sym (unpacked-length (c .before .before))
 
 check-samples-requires : tie.Need-check-samples-requires
-check-samples-requires c κs = omega (arith, unpacked-length (c .before .before), begin (c .before .before) .pre .1)
+check-samples-requires c κs = omega (arith, unpacked-length (c .before .before))
 
 enum-known-refusal : tie.Need-enum-known-refusal
 enum-known-refusal c = search needs
@@ -98,34 +110,36 @@ refused-requires-3 c κs = search needs
 
 returns-4 : tie.Need-returns-4
 returns-4 c =
-    let samples = c .before .before .before .before in
-    let start = begin (samples .before .before .before) in
-    let e = checked samples ∙ c .before .before .enum-told .given .1 in
-    let short = lt-leb (start .args .count) (length (start .args .samples .now)) (c .before .if3 .taken) in
+    let fine = c .before .before in
+    let samples = fine .before .before in
+    let room = begin (padding (row samples) .before .before) .args .samples .now in
+    let e = checked samples ∙ fine .enum-told .given .1 in
+    let short = lt-leb (count (row samples)) (length room) (c .before .if3 .taken) in
     (rw (e, short) (c .refused3 .ensures), rw (e, short))
 
 array-share-prefix-row-2 : tie.Need-array-share-prefix-row-2
 array-share-prefix-row-2 c = search needs
 
 slice-aggregate-copy : tie.Need-slice-aggregate-copy
-slice-aggregate-copy c = sym (unpacked-length (c .before .before .before .before .before .before .before))
+slice-aggregate-copy c = let fine = c .before .before in sym (unpacked-length (row (fine .before .before)))
 
 copy-requires : tie.Need-copy-requires
-copy-requires c κs = rw (unpacked-length (c .before .before .before .before .before .before .before .before)) (c .before .before .if3 .left)
+copy-requires c κs = let fine = c .before .before .before in rw (unpacked-length (row (fine .before .before))) (c .before .before .if3 .left)
 
 same-length : tie.Need-same-length
 same-length c = search needs
 
 returns-5 : tie.Need-returns-5
 returns-5 c =
-    let samples = c .before .before .before .before .before .before .before .before in
-    let start = begin (samples .before .before .before) in
-    let n = start .args .count in
-    let row = start .args .samples .now in
-    let e = checked samples ∙ c .before .before .before .before .before .before .enum-told .given .1 in
-    let room = le-leb n (length row) (c .before .before .before .before .before .if3 .left) in
-    let copied = rw (unpacked-length (samples .before .before .before)) at (c .before .before .copy .ensures) in
-    (rw (e, room), rw (e, room) (copied ∙ ap (λ (xs : List ℕ). xs ++ drop n row) (unpacked (samples .before .before .before))))
+    let copy = c .before .before in
+    let fits = copy .before .before .before in
+    let samples = fits .before .before .before in
+    let n = count (row samples) in
+    let room = begin (padding (row samples) .before .before) .args .samples .now in
+    let e = checked samples ∙ fits .before .enum-told .given .1 in
+    let enough = le-leb n (length room) (fits .if3 .left) in
+    let copied = rw (unpacked-length (row samples)) at (copy .copy .ensures) in
+    (rw (e, enough), rw (e, enough) (copied ∙ ap (λ (xs : List ℕ). xs ++ drop n room) (unpacked (row samples))))
 
 pub read-body-spec : {M : Type 1} → statement M
 read-body-spec =

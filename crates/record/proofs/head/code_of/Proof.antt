@@ -1,4 +1,4 @@
--- Each arm is one of the tests.
+-- The match has the definition's four cases: the steps 1, 2 and 5, and any other; each has a code below 4.
 use borrow.Author.Tests.{ne-eqb}
 use lib.Dec.{lit<}
 use Rattle.record.proofs.head.code_of.Statement.{statement}

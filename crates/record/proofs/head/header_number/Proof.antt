@@ -2,7 +2,6 @@
 use mathlib.Core.Path.{sym, ap, _∙_}
 use native.Mathlib.Omega.{arith}
 use Rattle.record.specs.Bits.{bitsOf}
-use Rattle.record.specs.Format.{headerWidths, headerFields}
 use Rattle.record.proofs.Rows.{pack-whole}
 use Rattle.record.proofs.Packed.{header-fit}
 use borrow.Author.Needs.{needs}
@@ -42,7 +41,7 @@ returns c =
     let s = c .before .args .step in
     let n = c .before .args .count in
     let fit = header-fit a s n (c .before .pre .1) (c .before .pre .2) in
-    ap (bitsOf 24) (omega (arith, c .code-of .ensures .0)) ∙ sym (pack-whole headerWidths (headerFields a s n) fit)
+    ap (bitsOf 24) (omega (arith, c .code-of .ensures .0)) ∙ sym (pack-whole fit)
 
 pub header-number-spec : {M : Type 1} → statement M
 header-number-spec =

@@ -5,7 +5,7 @@ use Prim.Native.Nat.{ℕ, _+_, _/_, _%_}
 use native.Mathlib.Omega.{arith}
 use Rattle.grid.specs.Check.{gridCheck}
 use Rattle.record.specs.Answer.{headerCheck}
-use Rattle.record.specs.Format.{headerOf, headerWidths, stepOfCode}
+use Rattle.record.specs.Format.{headerOf, headerWidths}
 use Rattle.record.proofs.Rows.{digits}
 use Rattle.record.proofs.Fields.{header-digits}
 use Rattle.record.proofs.Refusals.{short-refused, edition-refused, reserved-refused, header-passed}
@@ -25,13 +25,15 @@ fields c =
     header-digits (bytes c) (λ i. omega (arith, c .before .before .shared-slice-known .given i)) (c .before .if1 .left)
     ∙ ap (digits headerWidths) (sym (c .three .ensures .0))
 
+-- the header's check is the grid's, at the step that was looked up
 passed :
-    (c : tie.Else3) →
-    headerCheck (bytes (c .before .before))
-    ≡ gridCheck (300 + number (c .before .before) / 2048 % 128) (stepOfCode (number (c .before .before) / 262144 % 4)) (number (c .before .before) / 2 % 1024)
+    (c : tie.After-step-of) →
+    let three = c .before .before .before in
+    headerCheck (bytes three) ≡ gridCheck (300 + number three / 2048 % 128) (c .step-of .result) (number three / 2 % 1024)
 passed c =
-    let three = c .before .before in
-    header-passed (bytes three) (number three) (three .before .if1 .left) (fields three) (three .three .ensures .1) (c .before .if2 .left) (c .if3 .left)
+    let three = c .before .before .before in
+    header-passed (bytes three) (number three) (three .before .if1 .left) (fields three) (three .three .ensures .1) (c .before .before .if2 .left) (c .before .if3 .left)
+    ∙ ap (λ (s : ℕ). gridCheck (300 + number three / 2048 % 128) s (number three / 2 % 1024)) (sym (c .step-of .ensures))
 
 refused-requires : tie.Need-refused-requires
 refused-requires c κs = search needs
@@ -80,15 +82,14 @@ enum-known-refusal c = search needs
 
 returns-4 : tie.Need-returns-4
 returns-4 c =
-    let three = c .before .before .before .before .before .before in
-    let v = number three in
+    let looked-up = c .before .before .before in
     let grid = sym (c .before .before .check-grid .ensures) ∙ c .enum-told .given .1 in
-    rw (passed (c .before .before .before .before), ← c .before .before .before .step-of .ensures, grid, fields three, ← c .before .before .before .step-of .ensures)
+    rw (passed looked-up ∙ grid, fields (looked-up .before .before .before), ← looked-up .step-of .ensures)
 
 returns-5 : tie.Need-returns-5
 returns-5 c =
-    let grid = sym (c .before .before .before .check-grid .ensures) ∙ c .before .refusal .given .1 in
-    rw (passed (c .before .before .before .before .before), ← c .before .before .before .before .step-of .ensures, grid)
+    let grid = c .before .before .before in
+    rw (passed (grid .before) ∙ sym (grid .check-grid .ensures) ∙ c .before .refusal .given .1)
 
 pub read-header-spec : {M : Type 1} → statement M
 read-header-spec =

@@ -1,4 +1,4 @@
--- Each arm is one of the tests.
+-- The match has the definition's four cases: the codes 0, 1 and 2, and any other.
 use borrow.Author.Tests.{ne-eqb}
 use Rattle.record.proofs.head.step_of.Statement.{statement}
 use Rattle.record.proofs.head.step_of.Tie as tie

@@ -6,7 +6,7 @@ use mathlib.Core.Path.{_≡_, ap, _∙_}
 use mathlib.Core.List.{[], _∷_}
 use Prim.Native.Nat.{ℕ, suc, _+_, _*_, _/_, _%_, _^_, _<_}
 use Rattle.record.specs.Bits.{cut, bytewise}
-use Rattle.record.proofs.Rows.{pack-whole, cut-number}
+use Rattle.record.proofs.Rows.{none, more, pack-whole, cut-number}
 use Rattle.record.proofs.Packed.{pairBytes}
 use borrow.Author.Needs.{needs}
 use Rattle.record.proofs.pack.put_pair.Statement.{statement}
@@ -22,7 +22,7 @@ five-digits x y h l =
     let d : v / 65536 % 256 ≡ x % 16 * 16 + y / 65536 = omega arith in
     let e : v / 256 % 256 ≡ y / 256 % 256 = omega arith in
     let f : v / 1 % 256 ≡ y % 256 = omega arith in
-    ap (cut (bytewise 5)) (pack-whole (20 ∷ 20 ∷ []) (x ∷ y ∷ []) (h, (l, tt)))
+    ap (cut (bytewise 5)) (pack-whole {ks = 20 ∷ 20 ∷ []} {vs = x ∷ y ∷ []} (more h (more l none)))
     ∙ cut-number (8 ∷ 8 ∷ 8 ∷ 8 ∷ 8 ∷ []) v
     ∙ rw (a, b, d, e, f)
 

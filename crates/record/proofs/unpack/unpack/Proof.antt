@@ -17,6 +17,9 @@ Inv-loop bytes count row₀ k₀ row k = (k ≤ count) × (row ≡ take k (sampl
 abbrev μ-loop : tie.MeasureT-loop
 μ-loop bytes count row₀ k₀ row k = count - k
 
+abbrev begin : tie.At-loop Inv-loop μ-loop → tie.Start Inv-loop μ-loop
+begin c = c .before .before .before
+
 loop-holds : tie.Need-loop-holds Inv-loop μ-loop
 loop-holds c = (omega arith, refl, refl)
 
@@ -37,15 +40,14 @@ loop-less c = omega arith
 
 loop-again : tie.Need-loop-again Inv-loop μ-loop
 loop-again c =
-    let bytes = c .before .before .before .before .before .args .bytes .now in
-    let n = c .before .before .before .before .before .args .count in
-    let row = c .before .before .before .before .before .args .row .now in
-    let k = c .before .before .loop .k in (
+    let loop = c .before .before .loop in
+    let given = begin (c .before .before) .args in
+    let xs = samplesOf (given .count) (given .bytes .now) in (
       omega arith,
-      ap (λ (s : List ℕ). set s k (c .sample .result)) (c .before .before .loop .inv .1)
-          ∙ ap (λ (x : ℕ). set (take k (samplesOf n bytes) ++ drop k row) k x) (c .sample .ensures)
-          ∙ front-more row (samplesOf n bytes) k (rw samples-length (omega arith)) (rw samples-length (omega arith)),
-      simp length-set (c .before .before .loop .inv .2),
+      ap (λ (s : List ℕ). set s (loop .k) (c .sample .result)) (loop .inv .1)
+          ∙ ap (λ (x : ℕ). set (take (loop .k) xs ++ drop (loop .k) (given .row .now)) (loop .k) x) (c .sample .ensures)
+          ∙ front-more (given .row .now) xs (loop .k) (rw samples-length (omega arith)) (rw samples-length (omega arith)),
+      simp length-set (loop .inv .2),
     )
 
 same-length : tie.Need-same-length Inv-loop μ-loop
@@ -53,11 +55,11 @@ same-length c = c .before .loop .inv .2
 
 returns : tie.Need-returns Inv-loop μ-loop
 returns c =
-    let bytes = c .before .before .before .before .args .bytes .now in
-    let n = c .before .before .before .before .args .count in
-    let row = c .before .before .before .before .args .row .now in
+    let given = begin (c .before) .args in
+    let n = given .count in
+    let xs = samplesOf n (given .bytes .now) in
     let e : c .before .loop .k ≡ n = omega arith in
-    rw e at (c .before .loop .inv .1) ∙ ap (λ (s : List ℕ). s ++ drop n row) (take-all n (samplesOf n bytes) (omega (arith, samples-length n bytes)))
+    rw e at (c .before .loop .inv .1) ∙ ap (λ (s : List ℕ). s ++ drop n (given .row .now)) (take-all n xs (omega (arith, samples-length n (given .bytes .now))))
 
 pub unpack-spec : {M : Type 1} → statement M
 unpack-spec =

@@ -1,17 +1,17 @@
 // The promises of the page: theorems about the definition, each with a function that stands for it.
-ghost use Rattle.page.specs.Promise.{Page, Dark, Example};
+ghost use Rattle.page.specs.Promises.{Page, Dark, Example};
 
 // Whatever the bytes are, the page is not blank, ends with a newline and has at most 99 bytes.
-pub fn page()
+pub fn promise_page()
     ensures { λ _. ⌜ Page ⌝ }
 {}
 
 // A room with no light has a page of zeros and dashes.
-pub fn dark()
+pub fn promise_dark()
     ensures { λ _. ⌜ Dark ⌝ }
 {}
 
 // The document's own example.
-pub fn example()
+pub fn promise_example()
     ensures { λ _. ⌜ Example ⌝ }
 {}

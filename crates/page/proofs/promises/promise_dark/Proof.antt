@@ -10,14 +10,15 @@ use Rattle.readings.specs.Readings.{figuresOf}
 use Rattle.readings.proofs.Unlit.{zeros-accepted, zeros, no-figures}
 use Rattle.record.specs.Format.{recordOf}
 use Rattle.record.proofs.Round.{start-back, step-back, count-back, samples-back, record-accepted}
-use Rattle.page.specs.Promise.{darkText}
-use Rattle.page.specs.Report.{reportOf, answerOf, textOf, figureLines, colourLines, line, digits}
-use Rattle.page.proofs.promise.dark.Statement.{statement}
-use Rattle.page.proofs.promise.dark.Tie as tie
+use Rattle.page.specs.Promises.{darkText}
+use Rattle.page.specs.Recorded.{recordedFigures}
+use Rattle.page.specs.Report.{reportOf, textOf, figureLines, colourLines, line, digits}
+use Rattle.page.proofs.promises.promise_dark.Statement.{statement}
+use Rattle.page.proofs.promises.promise_dark.Tie as tie
 
 -- the figures of an accepted spectrum's record are the spectrum's
-figures-back : (a s : ℕ) (xs : List ℕ) → lightCheck a s xs ≡ Fine → answerOf (recordOf a s xs) ≡ figuresOf a s xs
-unfolding answerOf
+figures-back : (a s : ℕ) (xs : List ℕ) → lightCheck a s xs ≡ Fine → recordedFigures (recordOf a s xs) ≡ figuresOf a s xs
+unfolding recordedFigures
 figures-back a s xs fine =
     rw (record-accepted a s xs fine, count-back a s xs fine, samples-back a s xs fine, start-back a s xs fine, step-back a s xs fine)
 
@@ -32,5 +33,5 @@ page a s n grid =
 returns : tie.Need-returns
 returns c = record { page = page }
 
-pub dark-spec : {M : Type 1} → statement M
-dark-spec = tie.close (tie.spec returns)
+pub promise-dark-spec : {M : Type 1} → statement M
+promise-dark-spec = tie.close (tie.spec returns)

@@ -1,27 +1,27 @@
 // The promises of records: theorems about the definitions, each with a function that stands for it.
-ghost use Rattle.record.specs.Promise.{ReadBack, WrittenBack, OneToOne, Length, Example};
+ghost use Rattle.record.specs.Promises.{ReadBack, WrittenBack, OneToOne, Length, Example};
 
 // An accepted spectrum is written where there is room, and its record reads back.
-pub fn read_back()
+pub fn promise_read_back()
     ensures { λ _. ⌜ ReadBack ⌝ }
 {}
 
 // An accepted record, written again, gives its own bytes.
-pub fn written_back()
+pub fn promise_written_back()
     ensures { λ _. ⌜ WrittenBack ⌝ }
 {}
 
 // Two accepted records that read alike are the same bytes.
-pub fn one_to_one()
+pub fn promise_one_to_one()
     ensures { λ _. ⌜ OneToOne ⌝ }
 {}
 
 // The length of a record.
-pub fn length()
+pub fn promise_length()
     ensures { λ _. ⌜ Length ⌝ }
 {}
 
 // The document's own example.
-pub fn example()
+pub fn promise_example()
     ensures { λ _. ⌜ Example ⌝ }
 {}

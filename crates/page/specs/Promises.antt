@@ -1,12 +1,13 @@
 -- What is promised of pages: none is blank or long, whatever the bytes are; and what the page of a dark room and the example's are.
 use mathlib.Core.Path.{_≡_}
-use mathlib.Core.List.{List, [], _∷_, _++_}
+use mathlib.Core.List.{List, _∷_, _++_}
 use Prim.Native.Nat.{ℕ, _-_, _≤_}
 use lib.ListN.{length, drop, replicate}
 use Rattle.grid.specs.declared.Check.the-variants.{Fine}
 use Rattle.grid.specs.Check.{gridCheck}
 use Rattle.record.specs.Format.{recordOf}
 use Rattle.record.specs.Said.{wrote}
+use Rattle.page.specs.Text.{ascii}
 use Rattle.page.specs.Report.{reportOf, newline}
 use Rattle.page.specs.Answer.{reportAnswer}
 use Rattle.page.specs.Said.{saidReported}
@@ -21,13 +22,13 @@ pub record Page : Type 0 where
 -- the page of a room with no light: five zeros, and a dash for x and for y
 abbrev pub darkText : List ℕ
 darkText =
-    112 ∷ 104 ∷ 111 ∷ 116 ∷ 111 ∷ 112 ∷ 105 ∷ 99 ∷ 32 ∷ 48 ∷ 10 ∷
-    115 ∷ 99 ∷ 111 ∷ 116 ∷ 111 ∷ 112 ∷ 105 ∷ 99 ∷ 32 ∷ 48 ∷ 10 ∷
-    88 ∷ 32 ∷ 48 ∷ 10 ∷
-    89 ∷ 32 ∷ 48 ∷ 10 ∷
-    90 ∷ 32 ∷ 48 ∷ 10 ∷
-    120 ∷ 32 ∷ 45 ∷ 10 ∷
-    121 ∷ 32 ∷ 45 ∷ 10 ∷ []
+    ascii "photopic 0\n"
+    ++ ascii "scotopic 0\n"
+    ++ ascii "X 0\n"
+    ++ ascii "Y 0\n"
+    ++ ascii "Z 0\n"
+    ++ ascii "x -\n"
+    ++ ascii "y -\n"
 
 -- whatever the accepted grid
 pub record Dark : Type 0 where
@@ -36,13 +37,13 @@ pub record Dark : Type 0 where
 -- the paper's example, line by line: 380 nm, step 1, 401 samples, all 0 but 1,000,000 at 460 nm
 abbrev pub exampleText : List ℕ
 exampleText =
-    112 ∷ 104 ∷ 111 ∷ 116 ∷ 111 ∷ 112 ∷ 105 ∷ 99 ∷ 32 ∷ 52 ∷ 48 ∷ 57 ∷ 56 ∷ 48 ∷ 10 ∷
-    115 ∷ 99 ∷ 111 ∷ 116 ∷ 111 ∷ 112 ∷ 105 ∷ 99 ∷ 32 ∷ 57 ∷ 54 ∷ 51 ∷ 57 ∷ 48 ∷ 48 ∷ 10 ∷
-    88 ∷ 32 ∷ 49 ∷ 57 ∷ 56 ∷ 54 ∷ 49 ∷ 54 ∷ 10 ∷
-    89 ∷ 32 ∷ 52 ∷ 48 ∷ 57 ∷ 56 ∷ 48 ∷ 10 ∷
-    90 ∷ 32 ∷ 49 ∷ 49 ∷ 52 ∷ 48 ∷ 48 ∷ 54 ∷ 52 ∷ 10 ∷
-    120 ∷ 32 ∷ 48 ∷ 46 ∷ 49 ∷ 52 ∷ 51 ∷ 57 ∷ 54 ∷ 10 ∷
-    121 ∷ 32 ∷ 48 ∷ 46 ∷ 48 ∷ 50 ∷ 57 ∷ 55 ∷ 48 ∷ 10 ∷ []
+    ascii "photopic 40980\n"
+    ++ ascii "scotopic 963900\n"
+    ++ ascii "X 198616\n"
+    ++ ascii "Y 40980\n"
+    ++ ascii "Z 1140064\n"
+    ++ ascii "x 0.14396\n"
+    ++ ascii "y 0.02970\n"
 
 pub record Example : Type 0 where
   pub page : reportOf (recordOf 380 1 (replicate 80 0 ++ 1000000 ∷ replicate 320 0)) ≡ exampleText
