@@ -3,7 +3,8 @@
 use crate::reflectances::widen;
 use curves::lit::lit_sums;
 use curves::weigh::Sums;
-use spectrum::line::row_from;
+use spectrum::line::lay;
+use spectrum::line::unmeasured;
 use tables::Illuminant;
 ghost use mathlib.Core.Path.{_≡_};
 ghost use Rattle.spectrum.specs.Begin.{Begun};
@@ -18,11 +19,9 @@ pub fn part_sums(observer: u32, illuminant: u32, first: u32, step: u32, part: &[
     let count = part.len();
     let mut wide = [0u32; 531];
     widen(part, &mut wide);
-    lit_sums(
-        observer,
-        illuminant_of(illuminant),
-        &row_from(first, step, &wide[..count]),
-    )
+    let mut row = unmeasured();
+    lay(first, step, &wide[..count], &mut row);
+    lit_sums(observer, illuminant_of(illuminant), &row)
 }
 
 // 1 is A, 2 is D65.

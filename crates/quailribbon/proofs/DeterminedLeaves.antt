@@ -1,13 +1,16 @@
 -- The open functions between crates are determined too: two results that a contract allows for the same arguments are
 -- equal. `Determined` shows it of the functions that face callers.
-use mathlib.Core.Path.{_≡_}
-use Prim.Native.Nat.{_^_, _<_}
+use mathlib.Core.Path.{_≡_, refl}
+use Prim.Native.Nat.{ℕ, _^_, _<_}
 use native.Mathlib.Omega.{arith}
+use mathlib.Core.List.{List, []}
+use lib.ListN.{length, getD}
+use lib.Seq.{ext-getD}
 use Rattle.exact.specs.declared.digits.Short.{Short}
 use Rattle.exact.specs.declared.digits.Long.{Long}
 use Rattle.exact.specs.Value.{short, long}
 use Rattle.curves.specs.declared.weigh.Sums.{Sums}
-use Rattle.quailribbon.proofs.Determined.{OneResult, same}
+use Rattle.quailribbon.proofs.Determined.{OneResult, OneExit, same}
 use Rattle.exact.proofs.digits.joined.Reads as joined
 use Rattle.exact.proofs.digits.times_plus.Reads as times-plus
 use Rattle.exact.proofs.digits.narrow.Reads as narrow
@@ -35,7 +38,8 @@ use Rattle.curves.proofs.weigh.weigh.Reads as weigh
 use Rattle.curves.proofs.weigh.row_sums.Reads as row-sums
 use Rattle.curves.proofs.lit.lit_sums.Reads as lit-sums
 use Rattle.spectrum.proofs.line.begin_at_360.Reads as begin-at-360
-use Rattle.spectrum.proofs.line.row_from.Reads as row-from
+use Rattle.spectrum.proofs.line.unmeasured.Reads as unmeasured
+use Rattle.spectrum.proofs.line.lay.Reads as lay
 use Rattle.answers.proofs.work.reading_from.Reads as reading-from
 use Rattle.answers.proofs.work.xyz_from.Reads as xyz-from
 use Rattle.answers.proofs.work.xy_from.Reads as xy-from
@@ -80,6 +84,11 @@ same-sums {r} {q} d g ex ey ez =
     let y : r .y ≡ q .y = same-short (d .y) (g .y) ey in
     let z : r .z ≡ q .z = same-short (d .z) (g .z) ez in
     λ i. record { x = x i; y = y i; z = z i }
+
+same-row : {xs ys : List ℕ} (place : ℕ → ℕ) → length xs ≡ 471 → length ys ≡ 471
+    → ((k : ℕ) → k < 471 → getD xs k 0 ≡ place k) → ((k : ℕ) → k < 471 → getD ys k 0 ≡ place k) → xs ≡ ys
+same-row {xs} {ys} place m n p q =
+    ext-getD 0 xs ys (same m n) (λ k b. let h : k < 471 = omega arith in same (p k h) (q k h))
 
 -- exact
 
@@ -177,8 +186,14 @@ one-begin-at-360 k a r q e f p s =
     let wavelength = same (p .wavelength) (s .wavelength) in
     λ i. record { place = place i; wavelength = wavelength i }
 
-one-row-from : OneResult row-from.Post
-one-row-from k a r q e f p s = same p s
+one-unmeasured : OneResult unmeasured.Post
+one-unmeasured k a r q e f p s = same-row _ (p .long) (s .long) (p .ends 0 0 []) (s .ends 0 0 [])
+
+one-lay : OneResult lay.Post
+one-lay k a r q e f p s = refl
+
+left-lay : OneExit (λ e. e .1 .1 .1 .0 .now) lay.Post
+left-lay k a r q e f p s = same p s
 
 -- answers
 

@@ -6,7 +6,8 @@ use curves::weigh::weigh;
 use exact::digits::Short;
 use exact::digits::joined;
 use exact::digits::short_times_plus;
-use spectrum::line::row_from;
+use spectrum::line::lay;
+use spectrum::line::unmeasured;
 use tables::Curve;
 ghost use mathlib.Core.Path.{_≡_};
 ghost use Prim.Native.Nat.{_≤_};
@@ -20,7 +21,9 @@ pub fn weighed(curve: Curve, first: u32, step: u32, part: &[u32]) -> Short
     requires { ⌜ Begun 1000000 first step (now part) ⌝ }
     ensures { λ r. ⌜ short r ≡ weighedBy curve first step (now (part .entry)) ⌝ }
 {
-    weigh(curve, &row_from(first, step, part))
+    let mut row = unmeasured();
+    lay(first, step, part, &mut row);
+    weigh(curve, &row)
 }
 
 // k · W(V) + (1000 - k) · W(V′).
@@ -28,7 +31,8 @@ pub fn mesopic_weighed(k: u32, first: u32, step: u32, part: &[u32]) -> Short
     requires { ⌜ (k ≤ 1000) × Begun 1000000 first step (now part) ⌝ }
     ensures { λ r. ⌜ short r ≡ mesopicWeighed k first step (now (part .entry)) ⌝ }
 {
-    let row = row_from(first, step, part);
+    let mut row = unmeasured();
+    lay(first, step, part, &mut row);
     let night = short_times_plus(weigh(Curve::VPrime, &row), 1000 - k, joined(0, 0));
     short_times_plus(weigh(Curve::YBar, &row), k, night)
 }
@@ -38,7 +42,9 @@ pub fn colour_sums(observer: u32, first: u32, step: u32, part: &[u32]) -> Sums
     requires { ⌜ Begun 1000000 first step (now part) ⌝ }
     ensures { λ r. ⌜ LightSums observer first step (now (part .entry)) r ⌝ }
 {
-    row_sums(observer, &row_from(first, step, part))
+    let mut row = unmeasured();
+    lay(first, step, part, &mut row);
+    row_sums(observer, &row)
 }
 
 // The four sums of the report: those of observer 2, and V′.
@@ -51,7 +57,8 @@ pub fn figure_sums(first: u32, step: u32, part: &[u32]) -> FigureSums
     requires { ⌜ Begun 1000000 first step (now part) ⌝ }
     ensures { λ r. ⌜ FigureSumsOf first step (now (part .entry)) r ⌝ }
 {
-    let row = row_from(first, step, part);
+    let mut row = unmeasured();
+    lay(first, step, part, &mut row);
     FigureSums {
         colour: row_sums(2, &row),
         night: weigh(Curve::VPrime, &row),

@@ -33,19 +33,18 @@ fn steps_to_360(start: u32, step: u32) -> u32
     if 360 < start { 0 } else { (360 - start) / step }
 }
 
-// The row of a part that begins there. Each step is named, so that the compiler knows it where the line is walked.
-pub fn row_from(first: u32, step: u32, part: &[u32]) -> [u64; 471]
-    requires { ⌜ Part first step (length (now part)) ⌝ }
-    ensures { λ r. ⌜ r ≡ rowOf first step (now (part .entry)) ⌝ }
+// Lays the line of a part that begins there over a row that has the end rule everywhere. Each step is named, so that the
+// compiler knows it where the line is walked.
+pub fn lay(first: u32, step: u32, part: &[u32], row: &mut [u64; 471])
+    requires { ⌜ Part first step (length (now part)) × Unmeasured (now row) ⌝ }
+    ensures { λ _. ⌜ now (row .exit) ≡ rowOf first step (now (part .entry)) ⌝ }
 {
-    let mut row = unmeasured();
     match step {
-        1 => copy(first, part, &mut row),
-        2 => walk(first, 2, part, &mut row),
-        5 => walk(first, 5, part, &mut row),
-        _ => walk(first, 10, part, &mut row),
+        1 => copy(first, part, row),
+        2 => walk(first, 2, part, row),
+        5 => walk(first, 5, part, row),
+        _ => walk(first, 10, part, row),
     }
-    row
 }
 
 // The place of a wavelength in the row; 0 where it is below 360.
@@ -60,7 +59,7 @@ pub fn place_of(wavelength: u32) -> usize
 }
 
 // The row before the measured places are laid: the end rule, that T is 0 outside the measured range.
-fn unmeasured() -> [u64; 471]
+pub fn unmeasured() -> [u64; 471]
     ensures { λ r. ⌜ Unmeasured r ⌝ }
 {
     [0u64; 471]

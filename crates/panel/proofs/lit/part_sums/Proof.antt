@@ -1,10 +1,9 @@
 -- The part is widened, its row laid, and the row summed under the illuminant.
-use mathlib.Core.Path.{_≡_, refl, sym, ap}
+use mathlib.Core.Path.{_≡_, refl, sym, ap, _∙_}
 use Prim.Native.Nat.{_*_, _-_, _≤_}
 use native.Mathlib.Nat.{mul-le-mul-right}
 use native.Mathlib.Omega.{arith}
 use lib.ListN.{length}
-use Rattle.spectrum.specs.Line.{rowOf}
 use Rattle.spectrum.proofs.Light.{begun-small}
 use Rattle.panel.proofs.Weighed.{panel-sums}
 use borrow.Author.Needs.{needs}
@@ -20,47 +19,50 @@ few s = let p = s .pre .part in let more : 1 * (length (s .args .part .now) - 1)
 widen-requires : tie.Need-widen-requires
 widen-requires c κs = (few (c .before .before), refl)
 
-illuminant-of-requires : tie.Need-illuminant-of-requires
-illuminant-of-requires c κs = search needs
+unmeasured-requires : tie.Need-unmeasured-requires
+unmeasured-requires c κs = search needs
 
 array-share-prefix-wide : tie.Need-array-share-prefix-wide
 array-share-prefix-wide c = rw (c .before .widen .ensures .long) (few (begin (c .before)))
 
--- where the row is laid: from the part, widened
-abbrev widened : tie.After-row-from → tie.After-widen
-widened c = c .before .before .before
+slice-aggregate-lay : tie.Need-slice-aggregate-lay
+slice-aggregate-lay c = ap length (sym (c .before .before .widen .ensures .first))
 
-slice-aggregate-row-from : tie.Need-slice-aggregate-row-from
-slice-aggregate-row-from c = ap length (sym (c .before .before .widen .ensures .first))
+lay-requires : tie.Need-lay-requires
+lay-requires c κs =
+    let plain = c .before .before in
+    let wide = plain .before in
+    (rw (wide .widen .ensures .first) (begin wide .pre .part), plain .unmeasured .ensures)
 
-row-from-requires : tie.Need-row-from-requires
-row-from-requires c κs = let wide = c .before .before in rw (wide .widen .ensures .first) (begin wide .pre .part)
+abbrev widened : tie.After-lay → tie.After-widen
+widened c = c .before .before .before .before
 
--- the row laid is the part's
-laid : (c : tie.After-row-from) → c .row-from .result ≡ rowOf (begin (widened c) .args .first) (begin (widened c) .args .step) (begin (widened c) .args .part .now)
-laid c = rw (widened c .widen .ensures .first) at (c .row-from .ensures)
+illuminant-of-requires : tie.Need-illuminant-of-requires
+illuminant-of-requires c κs = search needs
 
 lit-sums-requires : tie.Need-lit-sums-requires
 lit-sums-requires c κs =
-    let row = c .before in
+    let row = c .before .before in
     let s = begin (widened row) in
-    rw (laid row) (begun-small 10000 (s .args .first) (s .args .step) (s .args .part .now) (s .pre))
+    rw (row .lay .ensures, widened row .widen .ensures .first) (begun-small 10000 (s .args .first) (s .args .step) (s .args .part .now) (s .pre))
 
 returns : tie.Need-returns
 returns c =
-    let row = c .before .before in
+    let under = c .before .before in
+    let row = under .before in
     let t = begin (widened row) .args in
     panel-sums (t .observer) (t .illuminant) (t .first) (t .step) (t .part .now) (c .lit-sums .result)
-    (rw (row .before .before .illuminant-of .ensures, laid row) at (c .lit-sums .ensures))
+    (rw (under .illuminant-of .ensures, row .lay .ensures, widened row .widen .ensures .first) at (c .lit-sums .ensures))
 
 pub part-sums-spec : {M : Type 1} → statement M
 part-sums-spec =
     tie.close
     (tie.spec
     widen-requires
-    illuminant-of-requires
+    unmeasured-requires
     array-share-prefix-wide
-    slice-aggregate-row-from
-    row-from-requires
+    slice-aggregate-lay
+    lay-requires
+    illuminant-of-requires
     lit-sums-requires
     returns)

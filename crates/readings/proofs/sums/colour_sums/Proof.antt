@@ -5,18 +5,26 @@ use borrow.Author.Needs.{needs}
 use Rattle.readings.proofs.sums.colour_sums.Statement.{statement}
 use Rattle.readings.proofs.sums.colour_sums.Tie as tie
 
-row-from-requires : tie.Need-row-from-requires
-row-from-requires c κs = search needs
+abbrev begin : tie.After-lay → tie.Start
+begin c = c .before .before .before .before
+
+unmeasured-requires : tie.Need-unmeasured-requires
+unmeasured-requires c κs = search needs
+
+lay-requires : tie.Need-lay-requires
+lay-requires c κs = search needs
 
 row-sums-requires : tie.Need-row-sums-requires
 row-sums-requires c κs =
-    let s = c .before .before .before in
-    rw (c .before .row-from .ensures) (begun-small 1000000 (s .args .first) (s .args .step) (s .args .part .now) (s .pre))
+    let row = c .before in
+    let s = begin row in
+    rw (row .lay .ensures) (begun-small 1000000 (s .args .first) (s .args .step) (s .args .part .now) (s .pre))
 
 returns : tie.Need-returns
 returns c =
-    let t = c .before .before .before .before .args in
-    light-sums (t .observer) (t .first) (t .step) (t .part .now) (c .row-sums .result) (rw (c .before .before .row-from .ensures) at (c .row-sums .ensures))
+    let row = c .before .before in
+    let t = begin row .args in
+    light-sums (t .observer) (t .first) (t .step) (t .part .now) (c .row-sums .result) (rw (row .lay .ensures) at (c .row-sums .ensures))
 
 pub colour-sums-spec : {M : Type 1} → statement M
-colour-sums-spec = tie.close (tie.spec row-from-requires row-sums-requires returns)
+colour-sums-spec = tie.close (tie.spec unmeasured-requires lay-requires row-sums-requires returns)

@@ -6,29 +6,36 @@ use borrow.Author.Needs.{needs}
 use Rattle.readings.proofs.sums.figure_sums.Statement.{statement}
 use Rattle.readings.proofs.sums.figure_sums.Tie as tie
 
-row-from-requires : tie.Need-row-from-requires
-row-from-requires c κs = search needs
+abbrev begin : tie.After-lay → tie.Start
+begin c = c .before .before .before .before
+
+unmeasured-requires : tie.Need-unmeasured-requires
+unmeasured-requires c κs = search needs
+
+lay-requires : tie.Need-lay-requires
+lay-requires c κs = search needs
 
 row-sums-requires : tie.Need-row-sums-requires
 row-sums-requires c κs =
-    let s = c .before .before .before in
-    rw (c .before .row-from .ensures) (begun-small 1000000 (s .args .first) (s .args .step) (s .args .part .now) (s .pre))
+    let row = c .before in
+    let s = begin row in
+    rw (row .lay .ensures) (begun-small 1000000 (s .args .first) (s .args .step) (s .args .part .now) (s .pre))
 
 weigh-requires : tie.Need-weigh-requires
 weigh-requires c κs =
     let row = c .before .before .before in
-    let s = row .before .before in
-    rw (row .row-from .ensures) (begun-small 1000000 (s .args .first) (s .args .step) (s .args .part .now) (s .pre))
+    let s = begin row in
+    rw (row .lay .ensures) (begun-small 1000000 (s .args .first) (s .args .step) (s .args .part .now) (s .pre))
 
 returns : tie.Need-returns
 returns c =
-    let row = c .before .before .before .before in
-    let t = row .before .before .args in
-    let sums = c .before .before .row-sums in
+    let sums = c .before .before in
+    let row = sums .before .before in
+    let t = begin row .args in
     record {
-      colour = light-sums 2 (t .first) (t .step) (t .part .now) (sums .result) (rw (row .row-from .ensures) at (sums .ensures));
-      night = c .weigh .ensures ∙ rw (row .row-from .ensures, row-weighed);
+      colour = light-sums 2 (t .first) (t .step) (t .part .now) (sums .row-sums .result) (rw (row .lay .ensures) at (sums .row-sums .ensures));
+      night = c .weigh .ensures ∙ rw (row .lay .ensures, row-weighed);
     }
 
 pub figure-sums-spec : {M : Type 1} → statement M
-figure-sums-spec = tie.close (tie.spec row-from-requires row-sums-requires weigh-requires returns)
+figure-sums-spec = tie.close (tie.spec unmeasured-requires lay-requires row-sums-requires weigh-requires returns)

@@ -10,13 +10,23 @@ use borrow.Author.Needs.{needs}
 use Rattle.readings.proofs.sums.mesopic_weighed.Statement.{statement}
 use Rattle.readings.proofs.sums.mesopic_weighed.Tie as tie
 
-row-from-requires : tie.Need-row-from-requires
-row-from-requires c κs = search needs
+abbrev begin : tie.After-lay → tie.Start
+begin c = c .before .before .before .before
+
+unmeasured-requires : tie.Need-unmeasured-requires
+unmeasured-requires c κs = search needs
+
+lay-requires : tie.Need-lay-requires
+lay-requires c κs = search needs
+
+abbrev laid : tie.After-short-times-plus → tie.After-lay
+laid c = c .before .before .before .before
 
 weigh-requires : tie.Need-weigh-requires
 weigh-requires c κs =
-    let s = c .before .before .before in
-    rw (c .before .row-from .ensures) (begun-small 1000000 (s .args .first) (s .args .step) (s .args .part .now) (s .pre .1))
+    let row = c .before in
+    let s = begin row in
+    rw (row .lay .ensures) (begun-small 1000000 (s .args .first) (s .args .step) (s .args .part .now) (s .pre .1))
 
 sub-short-times-plus : tie.Need-sub-short-times-plus
 sub-short-times-plus c = search needs
@@ -29,9 +39,9 @@ short-times-plus-requires c κs = search needs
 
 weigh-requires-2 : tie.Need-weigh-requires-2
 weigh-requires-2 c κs =
-    let row = c .before .before .before .before .before in
-    let s = row .before .before in
-    rw (row .row-from .ensures) (begun-small 1000000 (s .args .first) (s .args .step) (s .args .part .now) (s .pre .1))
+    let row = laid (c .before) in
+    let s = begin row in
+    rw (row .lay .ensures) (begun-small 1000000 (s .args .first) (s .args .step) (s .args .part .now) (s .pre .1))
 
 short-times-plus-requires-2 : tie.Need-short-times-plus-requires-2
 short-times-plus-requires-2 c κs = search needs
@@ -39,8 +49,8 @@ short-times-plus-requires-2 c κs = search needs
 returns : tie.Need-returns
 returns c =
     let night = c .before .before .before in
-    let row = night .before .before .before .before in
-    let s = row .before .before in
+    let row = laid night in
+    let s = begin row in
     let t = s .args in
     let begun = s .pre .1 in
     let small = sum-small (t .first) (t .step) (t .part .now) (begun .part .step-low) (begun .part .step-high) (begun .within) in
@@ -50,7 +60,7 @@ returns c =
       night .short-times-plus .ensures,
       night .before .before .weigh .ensures,
       night .before .joined .ensures,
-      row .row-from .ensures,
+      row .lay .ensures,
       row-weighed,
       row-weighed,
     )
@@ -60,7 +70,8 @@ pub mesopic-weighed-spec : {M : Type 1} → statement M
 mesopic-weighed-spec =
     tie.close
     (tie.spec
-    row-from-requires
+    unmeasured-requires
+    lay-requires
     weigh-requires
     sub-short-times-plus
     joined-requires

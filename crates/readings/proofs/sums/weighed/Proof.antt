@@ -5,16 +5,23 @@ use borrow.Author.Needs.{needs}
 use Rattle.readings.proofs.sums.weighed.Statement.{statement}
 use Rattle.readings.proofs.sums.weighed.Tie as tie
 
-row-from-requires : tie.Need-row-from-requires
-row-from-requires c κs = search needs
+abbrev begin : tie.After-lay → tie.Start
+begin c = c .before .before .before .before
+
+unmeasured-requires : tie.Need-unmeasured-requires
+unmeasured-requires c κs = search needs
+
+lay-requires : tie.Need-lay-requires
+lay-requires c κs = search needs
 
 weigh-requires : tie.Need-weigh-requires
 weigh-requires c κs =
-    let s = c .before .before .before in
-    rw (c .before .row-from .ensures) (begun-small 1000000 (s .args .first) (s .args .step) (s .args .part .now) (s .pre))
+    let row = c .before in
+    let s = begin row in
+    rw (row .lay .ensures) (begun-small 1000000 (s .args .first) (s .args .step) (s .args .part .now) (s .pre))
 
 returns : tie.Need-returns
-returns c = c .weigh .ensures ∙ rw (c .before .before .row-from .ensures, row-weighed)
+returns c = c .weigh .ensures ∙ rw (c .before .before .lay .ensures, row-weighed)
 
 pub weighed-spec : {M : Type 1} → statement M
-weighed-spec = tie.close (tie.spec row-from-requires weigh-requires returns)
+weighed-spec = tie.close (tie.spec unmeasured-requires lay-requires weigh-requires returns)
