@@ -7,6 +7,11 @@ ifeq ($(filter /%,$(PREFIX)),)
 $(error PREFIX is $(PREFIX): give it an absolute path)
 endif
 
+# The library is for x86-64, whatever the machine is.
+ifneq ($(shell uname -m),x86_64)
+CC = x86_64-linux-gnu-gcc
+endif
+
 library = target/staticlib/libquailribbon
 # With their folders, which are newer where a file was taken out of them.
 sources := $(shell find crates.txt crates/*/src crates/*/specs crates/*/proofs)
