@@ -7,7 +7,7 @@ use native.Mathlib.Omega.{arith}
 use lib.ListN.{length, getD}
 use Rattle.mixing.specs.Nearest.{nearest}
 use Rattle.mixing.specs.Mixture.{mix, Below, Linear}
-use Rattle.mixing.specs.Promise.{Within, Between}
+use Rattle.mixing.specs.Promises.{Differ, Between}
 use Rattle.mixing.proofs.Mixture.{linear-plus, linear-times}
 use Rattle.mixing.proofs.Illuminance.{illuminance}
 use Rattle.mixing.proofs.Coordinate.{between}
@@ -29,7 +29,7 @@ quotients (F ∷ Fs) d xs = nearest (F xs) d ∷ quotients Fs d xs
 module _ (n d : ℕ) (pos : 0 < d) (xs ys : List ℕ) (p : length xs ≡ n) (q : length ys ≡ n) where
   unit :
       (Fs : List (List ℕ → ℕ)) → AllLinear n Fs → (i : ℕ) →
-      Within 1 (getD (quotients Fs d (mix xs ys)) i 0) (getD (quotients Fs d xs) i 0 + getD (quotients Fs d ys) i 0)
+      Differ 1 (getD (quotients Fs d (mix xs ys)) i 0) (getD (quotients Fs d xs) i 0 + getD (quotients Fs d ys) i 0)
   unit [] l i = record { above = omega arith; below = omega arith }
   unit (F ∷ Fs) l zero = illuminance n d F (l .0) pos .two xs ys p q
   unit (F ∷ Fs) l (suc i) = unit Fs (l .1) i
@@ -46,7 +46,7 @@ module _ (n d : ℕ) (pos : 0 < d) (xs ys : List ℕ) (p : length xs ≡ n) (q :
 
     pub reading-unit :
         reading xs .number ≡ 0 → reading ys .number ≡ 0 → reading (mix xs ys) .number ≡ 0 → (i : ℕ) →
-        Within 1 (value (reading (mix xs ys)) i) (value (reading xs) i + value (reading ys) i)
+        Differ 1 (value (reading (mix xs ys)) i) (value (reading xs) i + value (reading ys) i)
     reading-unit e f g i =
         rw (reading-values (F xs) d e, reading-values (F ys) d f, reading-values (F (mix xs ys)) d g) (unit (F ∷ []) (lin, tt) i)
 
@@ -60,7 +60,7 @@ module _ (n d : ℕ) (pos : 0 < d) (xs ys : List ℕ) (p : length xs ≡ n) (q :
 
     pub xyz-unit :
         xyz xs .number ≡ 0 → xyz ys .number ≡ 0 → xyz (mix xs ys) .number ≡ 0 → (i : ℕ) →
-        Within 1 (value (xyz (mix xs ys)) i) (value (xyz xs) i + value (xyz ys) i)
+        Differ 1 (value (xyz (mix xs ys)) i) (value (xyz xs) i + value (xyz ys) i)
     xyz-unit j k l i =
         rw (
           xyz-values (F xs) (G xs) (H xs) d j,

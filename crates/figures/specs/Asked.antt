@@ -4,13 +4,14 @@ use Prim.Native.Nat.{ℕ}
 use Rattle.grid.specs.Said.{Said}
 use Rattle.answers.specs.Said.{saidReading, saidXyz, saidXy}
 use Rattle.panel.specs.Panel.{panelXyzOf, panelXyOf}
+use Rattle.panel.specs.Figures.{panelFiguresOf, saidPanelFigures}
 use Rattle.readings.specs.Readings.{photopicOf, scotopicOf, photopic10Of, mesopicOf, xyzOf, xyOf}
 
 pub data Asked : Type 0 where
   photopic scotopic photopic10 : ℕ → ℕ → List ℕ → Asked
   mesopic : ℕ → ℕ → ℕ → List ℕ → Asked
   xyz xy : ℕ → ℕ → ℕ → List ℕ → Asked
-  panelXyz panelXy : ℕ → ℕ → ℕ → ℕ → List ℕ → Asked
+  panelXyz panelXy panelFigures : ℕ → ℕ → ℕ → ℕ → List ℕ → Asked
 
 unfoldable pub answerOf : Asked → Said
 answerOf (photopic a s xs) = saidReading (photopicOf a s xs)
@@ -21,3 +22,4 @@ answerOf (xyz o a s xs) = saidXyz (xyzOf o a s xs)
 answerOf (xy o a s xs) = saidXy (xyOf o a s xs)
 answerOf (panelXyz o i a s rs) = saidXyz (panelXyzOf o i a s rs)
 answerOf (panelXy o i a s rs) = saidXy (panelXyOf o i a s rs)
+answerOf (panelFigures o i a s rs) = saidPanelFigures (panelFiguresOf o i a s rs)

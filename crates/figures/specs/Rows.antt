@@ -5,7 +5,7 @@ use lib.ListN.{replicate}
 use Rattle.mixing.specs.Mixture.{mix}
 use Rattle.grid.specs.Said.{Said, given, refusedWith}
 use Rattle.grid.specs.Check.{refusal}
-use Rattle.figures.specs.Asked.{Asked, photopic, scotopic, photopic10, mesopic, xyz, xy, panelXyz, panelXy}
+use Rattle.figures.specs.Asked.{Asked, photopic, scotopic, photopic10, mesopic, xyz, xy, panelXyz, panelXy, panelFigures}
 
 -- an input, and what it must give
 pub record Row : Type 0 where
@@ -91,4 +91,8 @@ rows =
     ∷ refuses (panelXyz 2 3 360 1 (replicate 471 10000)) 7 0
     ∷ refuses (panelXyz 2 1 360 1 (lone 471 470 10001)) 8 470
     ∷ refuses (panelXy 2 1 360 1 (replicate 471 0)) 9 0
+    -- our own: a panel's figures in one answer: white, dark and refused
+    ∷ gives (panelFigures 2 2 360 1 (replicate 471 10000)) (95047 ∷ 100000 ∷ 108883 ∷ 0 ∷ 31273 ∷ 32902 ∷ [])
+    ∷ gives (panelFigures 2 1 360 1 (replicate 471 0)) (0 ∷ 0 ∷ 0 ∷ 9 ∷ 0 ∷ 0 ∷ [])
+    ∷ refuses (panelFigures 2 1 360 1 (lone 471 470 10001)) 8 470
     ∷ []

@@ -6,7 +6,7 @@ use native.Mathlib.Omega.{arith}
 use lib.ListN.{length, replicate}
 use Rattle.mixing.specs.Nearest.{nearest}
 use Rattle.mixing.specs.Mixture.{mix, mixture, Each, Rows, Linear}
-use Rattle.mixing.specs.Promise.{Between, Coordinate}
+use Rattle.mixing.specs.Promises.{Between, Coordinate}
 use Rattle.mixing.proofs.Nearest.{le-nearest, nearest-lt}
 use Rattle.mixing.proofs.Mixture.{mix-zeros, linear-zeros, linear-mixture}
 

@@ -8,7 +8,7 @@ use lib.ListN.{length, replicate}
 use Rattle.mixing.specs.Nearest.{nearest}
 use Rattle.mixing.specs.Sum.{sumOf}
 use Rattle.mixing.specs.Mixture.{mix, mixture, Rows, Linear}
-use Rattle.mixing.specs.Promise.{Within, Illuminance}
+use Rattle.mixing.specs.Promises.{Differ, Illuminance}
 use Rattle.mixing.proofs.Nearest.{le-nearest, nearest-lt}
 use Rattle.mixing.proofs.Mixture.{mix-zeros, linear-order, linear-zeros, linear-mixture}
 
@@ -38,7 +38,7 @@ module _ (n d : ℕ) (F : List ℕ → ℕ) (lin : Linear n F) (pos : 0 < d) whe
 
   many :
       (xs : List ℕ) (xss : List (List ℕ)) → Rows n (xs ∷ xss) →
-      Within (length (xs ∷ xss) / 2) (reading (mixture n (xs ∷ xss))) (sumOf (map reading (xs ∷ xss)))
+      Differ (length (xs ∷ xss) / 2) (reading (mixture n (xs ∷ xss))) (sumOf (map reading (xs ∷ xss)))
   many xs xss r =
       let all : List (List ℕ) = xs ∷ xss in
       let q : ℕ = reading (mixture n all) in
@@ -48,10 +48,10 @@ module _ (n d : ℕ) (F : List ℕ → ℕ) (lin : Linear n F) (pos : 0 < d) whe
       let below : 2 * s < 2 * q + k + 1 = lt-of-mul-lt-mul-right d (omega (arith, reading-low (mixture n all), sum-high all r)) in
       record { above = omega arith; below = omega arith }
 
-  two : (xs ys : List ℕ) → length xs ≡ n → length ys ≡ n → Within 1 (reading (mix xs ys)) (reading xs + reading ys)
+  two : (xs ys : List ℕ) → length xs ≡ n → length ys ≡ n → Differ 1 (reading (mix xs ys)) (reading xs + reading ys)
   unfolding sumOf mixture
   two xs ys p q =
-      let w : Within 1 (reading (mix xs (mix ys (replicate n 0)))) (reading xs + (reading ys + 0)) = many xs (ys ∷ []) (p, (q, tt)) in
+      let w : Differ 1 (reading (mix xs (mix ys (replicate n 0)))) (reading xs + (reading ys + 0)) = many xs (ys ∷ []) (p, (q, tt)) in
       let e : reading (mix xs (mix ys (replicate n 0))) ≡ reading (mix xs ys) =
       ap (λ (zs : List ℕ). reading (mix xs zs)) (mix-zeros n ys q) in
       record { above = omega arith; below = omega arith }

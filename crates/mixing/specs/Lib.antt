@@ -2,4 +2,4 @@
 pub mod Nearest
 pub mod Sum
 pub mod Mixture
-pub mod Promise
+pub mod Promises

@@ -8,7 +8,7 @@ use Rattle.grid.specs.Refusals.{DARK}
 use Rattle.grid.specs.declared.Check.the-variants.{Fine}
 use Rattle.grid.specs.Check.{Within, refusal, isObserver, gridCheck, lightCheck}
 use Rattle.mixing.specs.Mixture.{mix, Below}
-use Rattle.mixing.specs.Promise.{Between, Within as Differ}
+use Rattle.mixing.specs.Promises.{Between, Differ}
 use Rattle.tables.specs.declared.Curve.{Curve}
 use Rattle.tables.specs.declared.Curve.the-variants.{YBar, YBar10, VPrime}
 use Rattle.tables.specs.Curves.{weightOf}

@@ -12,8 +12,8 @@ use Rattle.answers.specs.Worked.{readingFrom, xyzFrom, xyFrom}
 use Rattle.readings.specs.Readings.{illuminanceOf, xyzOf, xyOf}
 use Rattle.figures.specs.Asked.{answerOf}
 use Rattle.figures.specs.Slips.{filledDown}
-use Rattle.figures.proofs.promise_slips.Statement.{statement}
-use Rattle.figures.proofs.promise_slips.Tie as tie
+use Rattle.figures.proofs.promises.promise_slips.Statement.{statement}
+use Rattle.figures.proofs.promises.promise_slips.Tie as tie
 
 differ : {version ours : ℕ} {m n : ℕ} → version ≡ m → ours ≡ n → (m ≡ n → ⊥) → version ≡ ours → ⊥
 differ p q apart e = apart (sym p ∙ e ∙ q)

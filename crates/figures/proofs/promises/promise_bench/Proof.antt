@@ -1,8 +1,8 @@
 -- The test is computed over the whole table.
 use Rattle.figures.specs.Rows.{rows}
 use Rattle.figures.proofs.Test.{holds, passes}
-use Rattle.figures.proofs.promise_bench.Statement.{statement}
-use Rattle.figures.proofs.promise_bench.Tie as tie
+use Rattle.figures.proofs.promises.promise_bench.Statement.{statement}
+use Rattle.figures.proofs.promises.promise_bench.Tie as tie
 
 returns : tie.Need-returns
 returns c = holds rows passes

@@ -8,7 +8,7 @@ use Rattle.mixing.specs.Sum.{sumOf}
 use Rattle.mixing.specs.Mixture.{mix, mixture, Each, Rows, Below, Linear}
 
 -- a and b differ by at most u
-pub record Within (u a b : ℕ) : Type 0 where
+pub record Differ (u a b : ℕ) : Type 0 where
   pub above : a ≤ b + u
   pub below : b ≤ a + u
 
@@ -21,8 +21,8 @@ pub record Between (a b m : ℕ) : Type 0 where
 pub record Illuminance (n : ℕ) (reading : List ℕ → ℕ) : Type 0 where
   pub many :
       (xs : List ℕ) (xss : List (List ℕ)) → Rows n (xs ∷ xss) →
-      Within (length (xs ∷ xss) / 2) (reading (mixture n (xs ∷ xss))) (sumOf (map reading (xs ∷ xss)))
-  pub two : (xs ys : List ℕ) → length xs ≡ n → length ys ≡ n → Within 1 (reading (mix xs ys)) (reading xs + reading ys)
+      Differ (length (xs ∷ xss) / 2) (reading (mixture n (xs ∷ xss))) (sumOf (map reading (xs ∷ xss)))
+  pub two : (xs ys : List ℕ) → length xs ≡ n → length ys ≡ n → Differ 1 (reading (mix xs ys)) (reading xs + reading ys)
   pub order : (xs ys : List ℕ) → length xs ≡ n → length ys ≡ n → Below xs ys → reading xs ≤ reading ys
 
 -- a coordinate of rows of n samples, where a row is dark if its divisor is 0: the mixture's lies between the least and the greatest of
@@ -41,7 +41,7 @@ pub record Coordinate (n : ℕ) (divisor coordinate : List ℕ → ℕ) : Type 0
       (xs ys : List ℕ) → length xs ≡ n → length ys ≡ n → divisor xs ≡ 0 → 0 < divisor ys →
       (coordinate (mix xs ys) ≡ coordinate ys) × (coordinate (mix ys xs) ≡ coordinate ys)
 
-pub record Promise : Type 0 where
+pub record Laws : Type 0 where
   -- a number and a half goes up
   pub halves-up : (n d : ℕ) → 0 < d → nearest ((2 * n + 1) * d) (2 * d) ≡ n + 1
   pub illuminance :
