@@ -1,6 +1,6 @@
 // T, the straight line through the samples times the step, laid out as a row of 471 places from 360 to 830 nm.
+use crate::walk::copy;
 use crate::walk::walk;
-use crate::walk::wide;
 ghost use mathlib.Core.Path.{_≡_};
 ghost use Prim.Native.Nat.{_+_, _*_, _-_, _/_, _^_, _<_, _≤_};
 ghost use lib.ListN.{length, getD};
@@ -47,31 +47,9 @@ pub fn lay(first: u32, step: u32, part: &[u32], row: &mut [u64; 471])
     }
 }
 
-// The place of a wavelength in the row; 0 where it is below 360.
-pub fn place_of(wavelength: u32) -> usize
-    ensures { λ r. ⌜ r ≡ wavelength - 360 ⌝ }
-{
-    if wavelength < 360 {
-        0
-    } else {
-        (wavelength - 360) as usize
-    }
-}
-
 // The row before the measured places are laid: the end rule, that T is 0 outside the measured range.
 pub fn unmeasured() -> [u64; 471]
     ensures { λ r. ⌜ Unmeasured r ⌝ }
 {
     [0u64; 471]
-}
-
-// At step 1 the line is the samples.
-fn copy(first: u32, part: &[u32], row: &mut [u64; 471])
-    requires { ⌜ Part first 1 (length (now part)) × Unmeasured (now row) ⌝ }
-    ensures { λ _. ⌜ now (row .exit) ≡ rowOf first 1 (now (part .entry)) ⌝ }
-{
-    let place = place_of(first);
-    for i in 0..part.len() {
-        row[place + i] = wide(part[i]);
-    }
 }

@@ -1,10 +1,20 @@
-// The line at a step above 1, walked from sample to sample with no division.
-use crate::line::place_of;
+// The line laid place by place: copied at step 1, and at other steps walked from sample to sample with no division.
 ghost use mathlib.Core.Path.{_≡_};
 ghost use Prim.Native.Nat.{_+_, _*_, _-_, _^_, _<_, _≤_};
 ghost use lib.ListN.{length};
 ghost use Rattle.spectrum.specs.Line.{rowOf, Part, Unmeasured};
 ghost use Rattle.spectrum.specs.Lay.{LaidTo};
+
+// At step 1 the line is the samples.
+pub fn copy(first: u32, part: &[u32], row: &mut [u64; 471])
+    requires { ⌜ Part first 1 (length (now part)) × Unmeasured (now row) ⌝ }
+    ensures { λ _. ⌜ now (row .exit) ≡ rowOf first 1 (now (part .entry)) ⌝ }
+{
+    let place = place_of(first);
+    for i in 0..part.len() {
+        row[place + i] = wide(part[i]);
+    }
+}
 
 // The first stretch begins at 360 nm, which may be above the first sample; the others begin at a sample.
 pub fn walk(first: u32, step: u32, part: &[u32], row: &mut [u64; 471])
@@ -42,8 +52,19 @@ fn between(step: u32, d: u32, here: u64, next: u64) -> u64
     (step - d) as u64 * here + d as u64 * next
 }
 
-pub fn wide(x: u32) -> u64
+fn wide(x: u32) -> u64
     ensures { λ r. ⌜ (r ≡ x) × (r < 2 ^ 32) ⌝ }
 {
     x as u64
+}
+
+// The place of a wavelength in the row; 0 where it is below 360.
+fn place_of(wavelength: u32) -> usize
+    ensures { λ r. ⌜ r ≡ wavelength - 360 ⌝ }
+{
+    if wavelength < 360 {
+        0
+    } else {
+        (wavelength - 360) as usize
+    }
 }

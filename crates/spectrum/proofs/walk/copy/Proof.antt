@@ -8,8 +8,8 @@ use lib.ListN.{length, getD}
 use Rattle.spectrum.specs.Line.{T}
 use Rattle.spectrum.specs.Lay.{LaidTo}
 use Rattle.spectrum.proofs.Lay.{lay-none, walk-at, lay-more, lay-all}
-use Rattle.spectrum.proofs.line.copy.Statement.{statement}
-use Rattle.spectrum.proofs.line.copy.Tie as tie
+use Rattle.spectrum.proofs.walk.copy.Statement.{statement}
+use Rattle.spectrum.proofs.walk.copy.Tie as tie
 
 abbrev Inv-loop : tie.InvT-loop
 Inv-loop first part row₀ place i₀ i-end row i = (i ≤ length part) × LaidTo first 1 part row (place + i)
