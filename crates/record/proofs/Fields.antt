@@ -9,7 +9,7 @@ use lib.Seq.{drop-cons, take-at, drop-drop, getD-append-add}
 use Rattle.record.specs.Bits.{num, cut, bitsOfBytes, Bytes}
 use Rattle.record.specs.Format.{headerWidths, bodyWidths, headerOf, fieldsOf, samplesOf, paddingOf, lengthOf}
 use Rattle.record.specs.Leaf.{threeAt}
-use Rattle.record.proofs.Rows.{total-replicate, length-cut, cut-append, digits, cut-digits, getD-cut}
+use Rattle.record.proofs.Rows.{widthsSum-replicate, length-cut, cut-append, digits, cut-digits, getD-cut}
 use Rattle.record.proofs.Window.{number, front, window, three-number}
 
 pub header-digits : (bytes : List ℕ) → Bytes bytes → 3 ≤ length bytes → headerOf bytes ≡ digits headerWidths (threeAt bytes 0)
@@ -32,7 +32,7 @@ pub body-split :
     (n : ℕ) (bits : List ℕ) → cut (bodyWidths n) bits ≡ cut (replicate n 20) bits ++ cut (replicate (n % 2) 4) (drop (20 * n) bits)
 body-split n bits =
     cut-append (replicate n 20) (replicate (n % 2) 4) bits
-    ∙ ap (λ (k : ℕ). cut (replicate n 20) bits ++ cut (replicate (n % 2) 4) (drop k bits)) (total-replicate n 20)
+    ∙ ap (λ (k : ℕ). cut (replicate n 20) bits ++ cut (replicate (n % 2) 4) (drop k bits)) (widthsSum-replicate n 20)
 
 pub length-samples : (n : ℕ) (bits : List ℕ) → length (cut (replicate n 20) bits) ≡ n
 length-samples n bits = length-cut (replicate n 20) bits ∙ length-replicate n 20

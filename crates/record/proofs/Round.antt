@@ -16,18 +16,18 @@ use Rattle.record.specs.Bits.{pack, cut, bytewise, bitsOfBytes, Bytes}
 use Rattle.record.specs.Format.{headerWidths, bodyWidths, headerFields, bodyFields, codeOf, stepOfCode, lengthOf, recordOf, headerOf, fieldsOf, startOf, stepOf, countOf, samplesOf, paddingOf}
 use Rattle.record.specs.Answer.{recordCheck, writeAnswer, bytesAfter}
 use Rattle.record.specs.Said.{wrote, saidWritten}
-use Rattle.record.proofs.Rows.{Fit, more, total, total-append, total-replicate, fit-append, fit-row, fit-zeros, fit-cut, packed-bits, length-cut, regroup}
+use Rattle.record.proofs.Rows.{Fit, more, widthsSum, widthsSum-append, widthsSum-replicate, fit-append, fit-row, fit-zeros, fit-cut, packed-bits, length-cut, regroup}
 use Rattle.record.proofs.Fields.{length-header, fields-split, body-split, samples-cut, samples-length, padding-cut, five-halves}
 use Rattle.grid.proofs.Light.{grid-fine, samples-fine, within, on-grid}
 use Rattle.record.proofs.Accepted.{fit-header}
 use Rattle.record.proofs.Reading.{record-fine, accept}
 
 -- the fields of n samples fill whole bytes
-pub whole-bytes : (n : ℕ) → total (headerWidths ++ bodyWidths n) ≡ total (bytewise (lengthOf n))
+pub whole-bytes : (n : ℕ) → widthsSum (headerWidths ++ bodyWidths n) ≡ widthsSum (bytewise (lengthOf n))
 whole-bytes n =
-    let body : total (bodyWidths n) ≡ 20 * n + 4 * (n % 2) =
-    total-append (replicate n 20) (replicate (n % 2) 4) ∙ ap₂ (λ (x y : ℕ). x + y) (total-replicate n 20) (total-replicate (n % 2) 4) in
-    let bytes : total (bytewise (lengthOf n)) ≡ 8 * lengthOf n = total-replicate (lengthOf n) 8 in
+    let body : widthsSum (bodyWidths n) ≡ 20 * n + 4 * (n % 2) =
+    widthsSum-append (replicate n 20) (replicate (n % 2) 4) ∙ ap₂ (λ (x y : ℕ). x + y) (widthsSum-replicate n 20) (widthsSum-replicate (n % 2) 4) in
+    let bytes : widthsSum (bytewise (lengthOf n)) ≡ 8 * lengthOf n = widthsSum-replicate (lengthOf n) 8 in
     let halves = five-halves n in
     omega arith
 
@@ -167,4 +167,4 @@ module _ (bytes : List ℕ) (fine : recordCheck bytes ≡ Fine) where
       let whole = record-fine bytes fine .1 .whole in
       ap (λ (k : ℕ). cut (bytewise (lengthOf k)) (pack (headerWidths ++ bodyWidths k) (headerFields (startOf bytes) (stepOf bytes) k ++ bodyFields xs))) e
       ∙ ap₂ (λ (k : ℕ) (vs : List ℕ). cut (bytewise k) (pack widths vs)) (sym whole) (sym fields-again)
-      ∙ regroup widths (fit-row 8 bytes known) (ap (λ (k : ℕ). total (bytewise k)) whole ∙ sym (whole-bytes n))
+      ∙ regroup widths (fit-row 8 bytes known) (ap (λ (k : ℕ). widthsSum (bytewise k)) whole ∙ sym (whole-bytes n))

@@ -17,17 +17,17 @@ pub data Fit : List ℕ → List ℕ → Type 0 where
   more : {k v : ℕ} {ks vs : List ℕ} → v < 2 ^ k → Fit ks vs → Fit (k ∷ ks) (v ∷ vs)
 
 -- how many bits widths take
-abbrev pub total : List ℕ → ℕ
-total [] = 0
-total (k ∷ ks) = k + total ks
+abbrev pub widthsSum : List ℕ → ℕ
+widthsSum [] = 0
+widthsSum (k ∷ ks) = k + widthsSum ks
 
-pub total-append : (ks js : List ℕ) → total (ks ++ js) ≡ total ks + total js
-total-append [] js = sym (zero-add (total js))
-total-append (k ∷ ks) js = ap (λ (x : ℕ). k + x) (total-append ks js) ∙ sym (add-assoc k (total ks) (total js))
+pub widthsSum-append : (ks js : List ℕ) → widthsSum (ks ++ js) ≡ widthsSum ks + widthsSum js
+widthsSum-append [] js = sym (zero-add (widthsSum js))
+widthsSum-append (k ∷ ks) js = ap (λ (x : ℕ). k + x) (widthsSum-append ks js) ∙ sym (add-assoc k (widthsSum ks) (widthsSum js))
 
-pub total-replicate : (n k : ℕ) → total (replicate n k) ≡ k * n
-total-replicate zero k = sym (mul-zero k)
-total-replicate (suc n) k = let e = total-replicate n k in rw (e, mul-suc) (omega arith)
+pub widthsSum-replicate : (n k : ℕ) → widthsSum (replicate n k) ≡ k * n
+widthsSum-replicate zero k = sym (mul-zero k)
+widthsSum-replicate (suc n) k = let e = widthsSum-replicate n k in rw (e, mul-suc) (omega arith)
 
 pub fit-append : {ks js vs us : List ℕ} → Fit ks vs → Fit js us → Fit (ks ++ js) (vs ++ us)
 fit-append none l = l
@@ -47,7 +47,7 @@ pub fit-zeros : (n k : ℕ) → Fit (replicate n k) (replicate n 0)
 fit-zeros zero k = none
 fit-zeros (suc n) k = more (pow-pos k) (fit-zeros n k)
 
-pub length-pack : {ks vs : List ℕ} → Fit ks vs → length (pack ks vs) ≡ total ks
+pub length-pack : {ks vs : List ℕ} → Fit ks vs → length (pack ks vs) ≡ widthsSum ks
 unfolding pack
 length-pack none = refl
 length-pack (more {k} {v} {ks} {vs} h t) = length-append (bitsOf k v) (pack ks vs) ∙ ap₂ (λ (x y : ℕ). x + y) (length-bitsOf k v) (length-pack t)
@@ -69,12 +69,12 @@ unfolding cut
 length-cut [] bits = refl
 length-cut (k ∷ ks) bits = ap suc (length-cut ks (drop k bits))
 
-pub cut-append : (ks js bits : List ℕ) → cut (ks ++ js) bits ≡ cut ks bits ++ cut js (drop (total ks) bits)
+pub cut-append : (ks js bits : List ℕ) → cut (ks ++ js) bits ≡ cut ks bits ++ cut js (drop (widthsSum ks) bits)
 unfolding cut
 cut-append [] js bits = refl
 cut-append (k ∷ ks) js bits =
     ap {B = List ℕ} (λ r. num (take k bits) ∷ r)
-    (cut-append ks js (drop k bits) ∙ ap (λ (r : List ℕ). cut ks (drop k bits) ++ cut js r) (drop-drop (total ks) k bits))
+    (cut-append ks js (drop k bits) ∙ ap (λ (r : List ℕ). cut ks (drop k bits) ++ cut js r) (drop-drop (widthsSum ks) k bits))
 
 -- what was packed comes out again
 pub cut-pack : {ks vs : List ℕ} (rest : List ℕ) → Fit ks vs → cut ks (pack ks vs ++ rest) ≡ vs
@@ -99,20 +99,20 @@ bits-drop (suc k) [] h = tt
 bits-drop (suc k) (b ∷ bits) h = bits-drop k bits (h .1)
 
 -- what was cut goes together again
-pub pack-cut : (ks bits : List ℕ) → Bits bits → length bits ≡ total ks → pack ks (cut ks bits) ≡ bits
+pub pack-cut : (ks bits : List ℕ) → Bits bits → length bits ≡ widthsSum ks → pack ks (cut ks bits) ≡ bits
 unfolding pack cut
 pack-cut [] [] h l = refl
 pack-cut [] (b ∷ bits) h l = absurd (omega arith)
 pack-cut (k ∷ ks) bits h l =
     let t : length (take k bits) ≡ k = length-take-le k bits (omega arith) in
-    let d : length (drop k bits) ≡ total ks = length-drop k bits ∙ omega arith in
+    let d : length (drop k bits) ≡ widthsSum ks = length-drop k bits ∙ omega arith in
     ap₂ (λ (x y : List ℕ). x ++ y)
     (ap (λ (n : ℕ). bitsOf n (num (take k bits))) (sym t) ∙ bitsOf-num (take k bits) (bits-take k bits h))
     (pack-cut ks (drop k bits) (bits-drop k bits h) d)
     ∙ take-append-drop k bits
 
 -- values that are packed by their widths, cut by others that take as many bits, and packed and cut back, are the same again
-pub regroup : {ks vs : List ℕ} (js : List ℕ) → Fit ks vs → total ks ≡ total js → cut ks (pack js (cut js (pack ks vs))) ≡ vs
+pub regroup : {ks vs : List ℕ} (js : List ℕ) → Fit ks vs → widthsSum ks ≡ widthsSum js → cut ks (pack js (cut js (pack ks vs))) ≡ vs
 regroup {ks} {vs} js h e =
     ap (cut ks) (pack-cut js (pack ks vs) (packed-bits ks vs) (length-pack h ∙ e) ∙ sym (append-nil (pack ks vs))) ∙ cut-pack [] h
 
@@ -120,17 +120,17 @@ regroup {ks} {vs} js h e =
 abbrev pub whole : List ℕ → List ℕ → ℕ
 whole [] vs = 0
 whole (k ∷ ks) [] = 0
-whole (k ∷ ks) (v ∷ vs) = v * 2 ^ total ks + whole ks vs
+whole (k ∷ ks) (v ∷ vs) = v * 2 ^ widthsSum ks + whole ks vs
 
-pub whole-lt : {ks vs : List ℕ} → Fit ks vs → whole ks vs < 2 ^ total ks
+pub whole-lt : {ks vs : List ℕ} → Fit ks vs → whole ks vs < 2 ^ widthsSum ks
 whole-lt none = omega arith
 whole-lt (more h t) = rw (pow-add) (digits-lt h (whole-lt t))
 
-pub pack-whole : {ks vs : List ℕ} → Fit ks vs → pack ks vs ≡ bitsOf (total ks) (whole ks vs)
+pub pack-whole : {ks vs : List ℕ} → Fit ks vs → pack ks vs ≡ bitsOf (widthsSum ks) (whole ks vs)
 unfolding pack bitsOf
 pack-whole none = refl
 pack-whole (more {k} {v} {ks} {vs} h t) =
-    ap (λ (r : List ℕ). bitsOf k v ++ r) (pack-whole t) ∙ join k (total ks) v (whole ks vs) (whole-lt t)
+    ap (λ (r : List ℕ). bitsOf k v ++ r) (pack-whole t) ∙ join k (widthsSum ks) v (whole ks vs) (whole-lt t)
 
 -- a value in a row of equal widths
 pub getD-cut : (n k i : ℕ) (bits : List ℕ) → i < n → getD (cut (replicate n k) bits) i 0 ≡ num (take k (drop (k * i) bits))
@@ -145,13 +145,13 @@ getD-cut (suc n) k (suc i) bits h =
 -- a number cut by widths
 abbrev pub digits : List ℕ → ℕ → List ℕ
 digits [] v = []
-digits (k ∷ ks) v = (v / 2 ^ total ks % 2 ^ k) ∷ digits ks v
+digits (k ∷ ks) v = (v / 2 ^ widthsSum ks % 2 ^ k) ∷ digits ks v
 
-pub cut-digits : (ks : List ℕ) (v : ℕ) (rest : List ℕ) → cut ks (bitsOf (total ks) v ++ rest) ≡ digits ks v
+pub cut-digits : (ks : List ℕ) (v : ℕ) (rest : List ℕ) → cut ks (bitsOf (widthsSum ks) v ++ rest) ≡ digits ks v
 unfolding cut
 cut-digits [] v rest = refl
 cut-digits (k ∷ ks) v rest =
-    let m = total ks in
+    let m = widthsSum ks in
     let first = bitsOf k (v / 2 ^ m) in
     let e : bitsOf (k + m) v ++ rest ≡ first ++ (bitsOf m v ++ rest) =
     ap (λ (r : List ℕ). r ++ rest) (bitsOf-add k m v) ∙ append-assoc first (bitsOf m v) rest in
@@ -161,7 +161,7 @@ cut-digits (k ∷ ks) v rest =
     (ap (λ (r : List ℕ). cut ks (drop k r)) e ∙ ap (cut ks) (drop-at first (bitsOf m v ++ rest) k l) ∙ cut-digits ks v rest)
 
 -- widths that the first bits fill see nothing of those behind
-pub cut-front : (ks bits rest : List ℕ) → total ks ≤ length bits → cut ks (bits ++ rest) ≡ cut ks bits
+pub cut-front : (ks bits rest : List ℕ) → widthsSum ks ≤ length bits → cut ks (bits ++ rest) ≡ cut ks bits
 unfolding cut
 cut-front [] bits rest h = refl
 cut-front (k ∷ ks) bits rest h =
@@ -171,14 +171,14 @@ cut-front (k ∷ ks) bits rest h =
     (ap (cut ks) (drop-append-le k bits rest l) ∙ cut-front ks (drop k bits) rest (rw length-drop (omega arith)))
 
 -- a number's bits and nothing else
-pub cut-number : (ks : List ℕ) (v : ℕ) → cut ks (bitsOf (total ks) v) ≡ digits ks v
-cut-number ks v = ap (cut ks) (sym (append-nil (bitsOf (total ks) v))) ∙ cut-digits ks v []
+pub cut-number : (ks : List ℕ) (v : ℕ) → cut ks (bitsOf (widthsSum ks) v) ≡ digits ks v
+cut-number ks v = ap (cut ks) (sym (append-nil (bitsOf (widthsSum ks) v))) ∙ cut-digits ks v []
 
 -- where the first bits fill the first widths, each part is cut by itself
-pub cut-join : (ks js bits rest : List ℕ) → length bits ≡ total ks → cut (ks ++ js) (bits ++ rest) ≡ cut ks bits ++ cut js rest
+pub cut-join : (ks js bits rest : List ℕ) → length bits ≡ widthsSum ks → cut (ks ++ js) (bits ++ rest) ≡ cut ks bits ++ cut js rest
 cut-join ks js bits rest e =
     cut-append ks js (bits ++ rest)
-    ∙ ap₂ (λ (x y : List ℕ). x ++ cut js y) (cut-front ks bits rest (omega arith)) (drop-at bits rest (total ks) e)
+    ∙ ap₂ (λ (x y : List ℕ). x ++ cut js y) (cut-front ks bits rest (omega arith)) (drop-at bits rest (widthsSum ks) e)
 
 -- what is cut fits its width
 pub fit-cut : (ks bits : List ℕ) → Bits bits → Fit ks (cut ks bits)

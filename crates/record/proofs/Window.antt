@@ -9,7 +9,7 @@ use lib.Seq.{drop-append-add, drop-append-le, take-append-le, drop-drop, drop-ni
 use Rattle.record.specs.Bits.{bitsOf, num, pack, bytewise, bitsOfBytes, Bytes}
 use Rattle.record.specs.Leaf.{threeAt}
 use Rattle.record.proofs.Bits.{length-bitsOf, join, field}
-use Rattle.record.proofs.Rows.{Fit, none, more, total, total-replicate, whole, whole-lt}
+use Rattle.record.proofs.Rows.{Fit, none, more, widthsSum, widthsSum-replicate, whole, whole-lt}
 
 pub bytes-tail : (x : ℕ) (bytes : List ℕ) → Bytes (x ∷ bytes) → Bytes bytes
 bytes-tail x bytes h k = h (suc k)
@@ -39,14 +39,14 @@ fit-front (suc m) (x ∷ bytes) h l = more (h 0) (fit-front m bytes (bytes-tail 
 
 pub front :
     (m : ℕ) (bytes : List ℕ) → Bytes bytes → m ≤ length bytes →
-    bitsOfBytes bytes ≡ bitsOf (total (bytewise m)) (number m bytes) ++ bitsOfBytes (drop m bytes)
+    bitsOfBytes bytes ≡ bitsOf (widthsSum (bytewise m)) (number m bytes) ++ bitsOfBytes (drop m bytes)
 unfolding pack bitsOf
 front zero bytes h l = refl
 front (suc m) [] h l = absurd (omega arith)
 front (suc m) (x ∷ bytes) h l =
     let known = bytes-tail x bytes h in
     let within : m ≤ length bytes = omega arith in
-    let t = total (bytewise m) in
+    let t = widthsSum (bytewise m) in
     let v = number m bytes in
     ap (λ (r : List ℕ). bitsOf 8 x ++ r) (front m bytes known within)
     ∙ sym (append-assoc (bitsOf 8 x) (bitsOf t v) (bitsOfBytes (drop m bytes)))
@@ -59,7 +59,7 @@ pub window :
 window m q r k t bytes h l e =
     let v = number m (drop q bytes) in
     let rest = bitsOfBytes (drop m (drop q bytes)) in
-    let w : total (bytewise m) ≡ r + (k + t) = total-replicate m 8 ∙ sym e in
+    let w : widthsSum (bytewise m) ≡ r + (k + t) = widthsSum-replicate m 8 ∙ sym e in
     let long : length (bitsOf (r + (k + t)) v) ≡ r + (k + t) = length-bitsOf (r + (k + t)) v in
     let behind : k ≤ length (drop r (bitsOf (r + (k + t)) v)) = rw length-drop (omega arith) in
     let within : r ≤ length (bitsOf (r + (k + t)) v) = omega arith in

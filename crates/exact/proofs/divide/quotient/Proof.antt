@@ -33,9 +33,9 @@ abbrev turn : tie.After-estimate Inv-loop μ-loop → tie.At-loop Inv-loop μ-lo
 turn c = c .before .before .before
 
 -- d is not 0
-lit : (c : tie.Else1 Inv-loop μ-loop) → 0 < short (begin c .args .d)
+divisor-some : (c : tie.Else1 Inv-loop μ-loop) → 0 < short (begin c .args .d)
 unfolding long
-lit c =
+divisor-some c =
     let some : 0 < long (c .before .before .whole .result) = leb-false _ _ (sym (c .before .at-most .ensures) ∙ c .if1 .left) in
     omega (arith, c .before .before .whole .ensures)
 
@@ -81,7 +81,7 @@ returns-2 c =
     let above = c .before .before .before in
     let start = begin above in
     let past : long (c .before .before .shifted .result) ≤ long (start .args .n) = leb-true _ _ (sym (c .before .at-most2 .ensures) ∙ c .if2 .taken) in
-    sym (over (long (start .args .n)) (short (start .args .d)) 4294967296 (lit above) (omega (arith, c .before .before .shifted .ensures)))
+    sym (over (long (start .args .n)) (short (start .args .d)) 4294967296 (divisor-some above) (omega (arith, c .before .before .shifted .ensures)))
 
 loop-holds : tie.Need-loop-holds Inv-loop μ-loop
 loop-holds c = omega arith
@@ -90,7 +90,7 @@ at-most-requires-3 : tie.Need-at-most-requires-3 Inv-loop μ-loop
 at-most-requires-3 c κs = tt
 
 estimate-requires : tie.Need-estimate-requires Inv-loop μ-loop
-estimate-requires c κs = (lit (divisible (c .before .before)), fits c)
+estimate-requires c κs = (divisor-some (divisible (c .before .before)), fits c)
 
 cast-q : tie.Need-cast-q Inv-loop μ-loop
 cast-q c = search needs
@@ -112,7 +112,7 @@ loop-less : tie.Need-loop-less Inv-loop μ-loop
 loop-less c =
     let s = turn (c .before .before) in
     let more : 1 * d s ≤ c .before .before .estimate .result * d s = mul-le-mul-right (d s) (c .before .before .estimate .ensures .0) in
-    omega (arith, product (c .before), c .minus .ensures, lit (divisible s))
+    omega (arith, product (c .before), c .minus .ensures, divisor-some (divisible s))
 
 loop-again : tie.Need-loop-again Inv-loop μ-loop
 loop-again c = omega (arith, product (c .before), c .minus .ensures, turn (c .before .before) .loop .inv)
@@ -122,7 +122,7 @@ returns-3 c =
     let s = c .before .before in
     let divisor = divisible s .before .before .whole in
     let less : long (s .loop .rest) < long (divisor .result) = leb-false _ _ (sym (c .before .at-most3 .ensures) ∙ c .if3 .left) in
-    sym (found (n s) (d s) 4294967296 (s .loop .q) (long (s .loop .rest)) (s .loop .inv) (omega (arith, divisor .ensures)) (under s) (lit (divisible s)))
+    sym (found (n s) (d s) 4294967296 (s .loop .q) (long (s .loop .rest)) (s .loop .inv) (omega (arith, divisor .ensures)) (under s) (divisor-some (divisible s)))
 
 pub quotient-spec : {M : Type 1} → statement M
 quotient-spec =

@@ -21,8 +21,8 @@ long xy v e = rw e (simp length-append)
 abbrev first : tie.After-put-line-arg4 → tie.After-put-line
 first c = c .before .before .before .before
 
-abbrev lit : tie.After-put-line → tie.After-xy
-lit c = c .before .before .before .before
+abbrev coloured : tie.After-put-line → tie.After-xy
+coloured c = c .before .before .before .before
 
 enum-known-xy : tie.Need-enum-known-xy
 enum-known-xy c = search needs
@@ -37,7 +37,7 @@ slice-aggregate-put-line-2 : tie.Need-slice-aggregate-put-line-2
 slice-aggregate-put-line-2 c = search needs
 
 put-line-requires-2 : tie.Need-put-line-requires-2
-put-line-requires-2 c κs = omega (arith, long _ _ (lit (first c) .xy .given .1))
+put-line-requires-2 c κs = omega (arith, long _ _ (coloured (first c) .xy .given .1))
 
 enum-told : tie.Need-enum-told
 enum-told c = search needs
@@ -56,7 +56,7 @@ returns : tie.Need-returns
 unfolding colourLines
 returns c =
     let x = first (c .before .before .before) in
-    rw (lit x .xy .given .1) (joined (x .put-line .ensures) (c .before .before .put-line2 .ensures))
+    rw (coloured x .xy .given .1) (joined (x .put-line .ensures) (c .before .before .put-line2 .ensures))
 
 same-length-2 : tie.Need-same-length-2
 same-length-2 c = search needs
