@@ -3,8 +3,8 @@
 # An installation goes to PREFIX, an absolute path; DESTDIR before it is for whoever makes a package.
 PREFIX = /usr/local
 DESTDIR =
-ifeq ($(filter /%,$(PREFIX)),)
-$(error PREFIX is $(PREFIX): give it an absolute path)
+ifneq ($(words $(filter /%,$(PREFIX))):$(words $(PREFIX)),1:1)
+$(error PREFIX is $(PREFIX): give it an absolute path without blanks)
 endif
 
 # The library is for x86-64, whatever the machine is.

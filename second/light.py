@@ -274,6 +274,15 @@ def panel_chart(observer, illuminant, start, step, reflectances):
     return charted(panel_xy(observer, illuminant, start, step, reflectances))
 
 
+def panel_figures(observer, illuminant, start, step, reflectances):
+    """X, Y, Z and, last, (x, y) or "dark", of a panel."""
+    tristimulus = panel_xyz(observer, illuminant, start, step, reflectances)
+    if isinstance(tristimulus, Refused):
+        return tristimulus
+    colour = panel_xy(observer, illuminant, start, step, reflectances)
+    return *tristimulus, "dark" if colour == Refused(DARK) else colour
+
+
 # The packed record.
 
 

@@ -159,6 +159,7 @@ def line(i):
         shown(light.panel_xyz(*panel)),
         shown(light.panel_xy(*panel)),
         shown_chart(light.panel_chart(*panel)),
+        shown_figures(light.panel_figures(*panel)),
         *shown_record(draws, *lit),
     ]
     return f"{i}: {' '.join(answers)}"

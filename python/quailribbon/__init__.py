@@ -137,7 +137,7 @@ class Figures(NamedTuple):
 
 
 class PanelFigures(NamedTuple):
-    """A panel's X, Y and Z in thousandths; `xy` is None where it reflects nothing."""
+    """A panel's X, Y and Z in thousandths; `xy` is None where its three sums are 0."""
 
     X: int
     Y: int
@@ -224,7 +224,7 @@ def panel_xyz(
 def panel_xy(
     observer: SupportsIndex, illuminant: SupportsIndex, start: SupportsIndex, step: SupportsIndex, reflectances: Row
 ) -> Xy:
-    """A panel's x and y in hundred-thousandths; `Refused` with number 9 where it reflects nothing."""
+    """A panel's x and y in hundred-thousandths; `Refused` with number 9 where its three sums are 0."""
     answer = _panel(_c.panel_xy, observer, illuminant, start, step, reflectances)
     return Xy(answer.x, answer.y)
 
@@ -232,7 +232,7 @@ def panel_xy(
 def panel_chart(
     observer: SupportsIndex, illuminant: SupportsIndex, start: SupportsIndex, step: SupportsIndex, reflectances: Row
 ) -> ChartPoint:
-    """A panel's point on the chart; `Refused` with number 9 where it reflects nothing."""
+    """A panel's point on the chart; `Refused` with number 9 where its three sums are 0."""
     answer = _panel(_c.panel_chart, observer, illuminant, start, step, reflectances)
     return ChartPoint(answer.x, answer.y)
 
@@ -250,7 +250,7 @@ def figures(start: SupportsIndex, step: SupportsIndex, samples: Row) -> Figures:
 def panel_figures(
     observer: SupportsIndex, illuminant: SupportsIndex, start: SupportsIndex, step: SupportsIndex, reflectances: Row
 ) -> PanelFigures:
-    """A panel's X, Y, Z and x, y in one call. Where it reflects nothing X, Y, Z are 0, and `xy` is None."""
+    """A panel's X, Y, Z and x, y in one call. Where its three sums are 0, so are X, Y, Z, and `xy` is None."""
     answer = _panel(_c.panel_figures, observer, illuminant, start, step, reflectances)
     return PanelFigures(answer.X, answer.Y, answer.Z, _colour(answer))
 

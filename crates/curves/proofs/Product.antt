@@ -11,8 +11,9 @@ use Rattle.mixing.proofs.Sum.{total-ext, weighted-bound}
 use Rattle.tables.specs.declared.Curve.{Curve}
 use Rattle.tables.specs.declared.Illuminant.{Illuminant}
 use Rattle.tables.specs.Curves.{table, powers}
-use Rattle.tables.proofs.Sums.{lit-sum}
-use Rattle.curves.specs.Lit.{litBy, litSum}
+use Rattle.tables.proofs.Sums.{lit-total}
+use Rattle.curves.specs.Lit.{litBy}
+use Rattle.curves.specs.Work.{litSum}
 
 -- the product at a place, its part above 2^21 and its part below
 abbrev pub product : List ℕ → List ℕ → ℕ → ℕ
@@ -69,5 +70,5 @@ pub lit-exact :
     litSum (table c) (powers i) row % 2 ^ 96 ≡ weighted 471 (litBy i c) (entryOf row)
 lit-exact i c row q =
     rw (lit-weighed i c row)
-    (let most = le-trans (weighted-bound 100000 471 471 (litBy i c) (entryOf row) q (le-refl 471)) (mul-le-mul-left 100000 (lit-sum i c)) in
+    (let most = le-trans (weighted-bound 100000 471 471 (litBy i c) (entryOf row) q (le-refl 471)) (mul-le-mul-left 100000 (lit-total i c)) in
     mod-eq-of-lt (omega arith))

@@ -1,3 +1,4 @@
 -- Definitions of the crate `curves`.
 pub mod Colour
 pub mod Lit
+pub mod Work

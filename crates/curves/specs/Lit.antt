@@ -1,7 +1,7 @@
 -- The sums of a row under an illuminant: power times weight times row, added up over the places.
 use mathlib.Core.Path.{_≡_}
 use mathlib.Core.List.{List}
-use Prim.Native.Nat.{ℕ, _*_, _%_, _^_}
+use Prim.Native.Nat.{ℕ, _*_}
 use Rattle.exact.specs.Value.{short}
 use Rattle.mixing.specs.Sum.{weighted, entryOf}
 use Rattle.tables.specs.declared.Curve.{Curve}
@@ -19,12 +19,3 @@ pub record LitSums (o : ℕ) (illuminant : Illuminant) (row : List ℕ) (sums : 
   pub x : short (sums .x) ≡ weighted 471 (litBy illuminant (colourOf o .x)) (entryOf row)
   pub y : short (sums .y) ≡ weighted 471 (litBy illuminant (colourOf o .y)) (entryOf row)
   pub z : short (sums .z) ≡ weighted 471 (litBy illuminant (colourOf o .z)) (entryOf row)
-
--- the same of any tables, as they are worked: without what passes 96 bits
-abbrev pub litSum : List ℕ → List ℕ → List ℕ → ℕ
-litSum weights powers row = weighted 471 (entryOf weights) (λ k. entryOf powers k * entryOf row k)
-
-pub record LitSumsBy (x̄ ȳ z̄ powers row : List ℕ) (sums : Sums) : Type 0 where
-  pub x : short (sums .x) ≡ litSum x̄ powers row % 2 ^ 96
-  pub y : short (sums .y) ≡ litSum ȳ powers row % 2 ^ 96
-  pub z : short (sums .z) ≡ litSum z̄ powers row % 2 ^ 96

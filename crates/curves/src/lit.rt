@@ -17,7 +17,8 @@ ghost use Rattle.exact.specs.Value.{short};
 ghost use Rattle.grid.specs.Check.{Within};
 ghost use Rattle.tables.specs.Curves.{powers};
 ghost use Rattle.tables.specs.Columns.{Halves};
-ghost use Rattle.curves.specs.Lit.{litSum, LitSums, LitSumsBy};
+ghost use Rattle.curves.specs.Lit.{LitSums};
+ghost use Rattle.curves.specs.Work.{litSum, LitSumsBy};
 
 // By the observer's curves, of a row that holds a step of at most 10 times a reflectance of at most 10,000 at each place.
 pub fn lit_sums(observer: u32, illuminant: Illuminant, row: &[u64; 471]) -> Sums

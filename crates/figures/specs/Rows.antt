@@ -1,4 +1,4 @@
--- The bench figures P1 to P10, and some of the project's own.
+-- The bench figures P1 to P10 with the paper's own numbers, and some of the project's own.
 use mathlib.Core.List.{List, [], _∷_, _++_}
 use Prim.Native.Nat.{ℕ, _-_}
 use lib.ListN.{replicate}

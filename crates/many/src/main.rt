@@ -167,4 +167,11 @@ fn panel(observer: u32, illuminant: u32, start: u32, step: u32, reflectances: &[
     shown::xyz(panel::panel_xyz(observer, illuminant, start, step, reflectances));
     shown::xy(panel::panel_xy(observer, illuminant, start, step, reflectances));
     shown::chart(panel::panel_chart(observer, illuminant, start, step, reflectances));
+    shown::panel_figures(panel::figures::panel_figures(
+        observer,
+        illuminant,
+        start,
+        step,
+        reflectances,
+    ));
 }

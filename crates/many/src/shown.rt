@@ -5,6 +5,7 @@ use answers::Reading;
 use answers::XyAnswer;
 use answers::XyzAnswer;
 use grid::Refusal;
+use panel::figures::PanelFiguresAnswer;
 use readings::figures::FiguresAnswer;
 
 pub fn space() {
@@ -100,6 +101,20 @@ pub fn figures(answer: FiguresAnswer) {
             also_xy(colour);
         }
         FiguresAnswer::Refused(refusal) => refused(refusal),
+    }
+}
+
+pub fn panel_figures(answer: PanelFiguresAnswer) {
+    space();
+    match answer {
+        PanelFiguresAnswer::Value(v) => {
+            number(v.xyz.x);
+            also(v.xyz.y);
+            also(v.xyz.z);
+            let colour = v.xy;
+            also_xy(colour);
+        }
+        PanelFiguresAnswer::Refused(refusal) => refused(refusal),
     }
 }
 

@@ -14,7 +14,7 @@ use Rattle.mixing.proofs.Mixture.{linear-times}
 use Rattle.tables.specs.declared.Curve.{Curve}
 use Rattle.spectrum.specs.Line.{W}
 use Rattle.spectrum.proofs.Measured.{W-linear}
-use Rattle.tables.proofs.Sums.{lit-sum}
+use Rattle.tables.proofs.Sums.{lit-total}
 use Rattle.answers.specs.declared.XyzAnswer.{XyzAnswer}
 use Rattle.grid.specs.Said.{value}
 use Rattle.curves.specs.Colour.{colourOf}
@@ -38,7 +38,7 @@ module _ (o i a s : ℕ) (rs : List ℕ) (fine : panelCheck o i a s rs ≡ Fine)
   fits c =
       let v = litBy (illuminantOf i) c in
       let x : W v a s rs ≤ s * 10000 * total 471 v = panel-bound a s rs (surface-fine o i a s rs fine) v in
-      let y : s * 10000 * total 471 v ≤ s * 10000 * 52320400000000000000000 = mul-le-mul-left (s * 10000) (lit-sum (illuminantOf i) c) in
+      let y : s * 10000 * total 471 v ≤ s * 10000 * 52320400000000000000000 = mul-le-mul-left (s * 10000) (lit-total (illuminantOf i) c) in
       let z : s * 10500000000000000000000 ≤ s * whiteSum o i = mul-le-mul-left s (white-some o i) in
       let n = nearest-bound 500000 (10 * W v a s rs) (s * whiteSum o i) (omega arith) in
       omega arith

@@ -13,7 +13,7 @@ use Rattle.spectrum.proofs.Light.{W-bound}
 use Rattle.curves.specs.Colour.{colourOf}
 use Rattle.panel.specs.Panel.{illuminantOf, surfaceCheck, whiteSum, xSum, ySum, zSum}
 use Rattle.curves.specs.Lit.{litBy}
-use Rattle.tables.proofs.Sums.{lit-sum}
+use Rattle.tables.proofs.Sums.{lit-total}
 use Rattle.panel.proofs.Computed.{white-low}
 use Rattle.panel.proofs.Surface.{within, on-grid}
 
@@ -25,7 +25,7 @@ module _ (o i : ℕ) where
   pub divisor-kept : (s : ℕ) → s ≤ 10 → (whiteSum o i * s + 0) % 2 ^ 96 ≡ s * whiteSum o i
   unfolding whiteSum
   divisor-kept s h =
-      let x : whiteSum o i * s ≤ 52320400000000000000000 * 10 = mul-le-mul (lit-sum (illuminantOf i) (colourOf o .y)) h in
+      let x : whiteSum o i * s ≤ 52320400000000000000000 * 10 = mul-le-mul (lit-total (illuminantOf i) (colourOf o .y)) h in
       mod-eq-of-lt (omega arith) ∙ omega arith
 
 module _ (a s : ℕ) (rs : List ℕ) (fine : surfaceCheck a s rs ≡ Fine) where
@@ -35,7 +35,7 @@ module _ (a s : ℕ) (rs : List ℕ) (fine : surfaceCheck a s rs ≡ Fine) where
   sum-small : (i : ℕ) (c : Curve) → W (litBy (illuminantOf i) c) a s rs ≤ 5232040000000000000000000000
   sum-small i c =
       le-trans (panel-bound (litBy (illuminantOf i) c))
-      (mul-le-mul (mul-le-mul-right 10000 (on-grid a s rs fine .step-high)) (lit-sum (illuminantOf i) c))
+      (mul-le-mul (mul-le-mul-right 10000 (on-grid a s rs fine .step-high)) (lit-total (illuminantOf i) c))
 
   pub colour-small : (o i : ℕ) → xSum o i a s rs + ySum o i a s rs + zSum o i a s rs < 2 ^ 96
   colour-small o i =

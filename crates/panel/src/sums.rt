@@ -1,5 +1,5 @@
 // The three sums of a panel, or its first refusal.
-use crate::lit::part_sums;
+use crate::part::part_sums;
 use crate::reflectances::check_reflectances;
 use curves::weigh::Sums;
 use grid::Check;

@@ -114,7 +114,7 @@ pub record Darkness : Type 0 where
   -- the figures in one call: five zeros, and 9 for x and y
   pub figures :
       (a s : ℕ) (xs : List ℕ) → lightCheck a s xs ≡ Fine → Colourless 2 a s xs → Unlit VPrime a s xs →
-      saidFigures (figuresOf a s xs) ≡ given (0 ∷ 0 ∷ 0 ∷ 0 ∷ 0 ∷ 9 ∷ 0 ∷ 0 ∷ []) []
+      saidFigures (figuresOf a s xs) ≡ given (0 ∷ 0 ∷ 0 ∷ 0 ∷ 0 ∷ DARK ∷ 0 ∷ 0 ∷ []) []
 
 -- at k = 1000 the mesopic reading is the photopic one, refusals and all
 pub record AtThousand : Type 0 where

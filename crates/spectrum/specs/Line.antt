@@ -36,7 +36,7 @@ rowOf a s xs = listed 471 (λ k. T a s xs (360 + k))
 unfoldable pub W : (ℕ → ℕ) → ℕ → ℕ → List ℕ → ℕ
 W v a s xs = weighted 471 v (λ k. T a s xs (360 + k))
 
--- n samples from a on: the first is at, above or just below 360, and the last from 780 to 830
+-- at one of the steps, n samples from a on: the first is at, above or just below 360, and the last from 780 to 830
 pub record Part (a s n : ℕ) : Type 0 where
   pub is-step : isStep s ≡ true
   pub step-low : 1 ≤ s

@@ -1,13 +1,13 @@
 -- What is computed over each whole table, once: every bound of an entry or of a sum is taken from here.
 use mathlib.Core.Path.{_≡_, refl, _∙_}
 use Prim.Native.Nat.{ℕ, _≤_}
-use native.Mathlib.Nat.{le-trans, le-of-eq}
+use native.Mathlib.Nat.{le-trans}
 use lib.Dec.{lit≤}
 use Rattle.mixing.specs.Sum.{total, sumOf}
 use Rattle.mixing.proofs.Sum.{total-list}
 use Rattle.tables.specs.Tables.{xBar, yBar, zBar, xBar10, yBar10, zBar10, vPrime, illuminantA, illuminantD65}
 use Rattle.tables.specs.Curves.{table, powers, weightOf, powerOf}
-use Rattle.tables.specs.Columns.{largest, Column, tableSum, tableTop, powersSum, powersTop, Halves}
+use Rattle.tables.specs.Columns.{largest, Column, tableSum, tableTop, powersSum, powersTop}
 use Rattle.tables.specs.declared.Curve.{Curve}
 use Rattle.tables.specs.declared.Curve.the-variants.{XBar, YBar, ZBar, XBar10, YBar10, ZBar10, VPrime}
 use Rattle.tables.specs.declared.Illuminant.{Illuminant}
@@ -15,29 +15,19 @@ use Rattle.tables.specs.declared.Illuminant.the-variants.{A, D65}
 use Rattle.tables.proofs.Largest.{at-most-largest}
 
 pub column : (c : Curve) → Column (table c) (tableSum c) (tableTop c)
-unfolding table sumOf largest xBar yBar zBar xBar10 yBar10 zBar10 vPrime
-column XBar = record { entries = refl; adds-up = refl; largest-is = refl }
-column YBar = record { entries = refl; adds-up = refl; largest-is = refl }
-column ZBar = record { entries = refl; adds-up = refl; largest-is = refl }
-column XBar10 = record { entries = refl; adds-up = refl; largest-is = refl }
-column YBar10 = record { entries = refl; adds-up = refl; largest-is = refl }
-column ZBar10 = record { entries = refl; adds-up = refl; largest-is = refl }
-column VPrime = record { entries = refl; adds-up = refl; largest-is = refl }
+unfolding table total sumOf largest xBar yBar zBar xBar10 yBar10 zBar10 vPrime
+column XBar = record { entries = refl; adds-up = refl; largest-is = refl; halves = record { high = lit≤ tt; low = lit≤ tt } }
+column YBar = record { entries = refl; adds-up = refl; largest-is = refl; halves = record { high = lit≤ tt; low = lit≤ tt } }
+column ZBar = record { entries = refl; adds-up = refl; largest-is = refl; halves = record { high = lit≤ tt; low = lit≤ tt } }
+column XBar10 = record { entries = refl; adds-up = refl; largest-is = refl; halves = record { high = lit≤ tt; low = lit≤ tt } }
+column YBar10 = record { entries = refl; adds-up = refl; largest-is = refl; halves = record { high = lit≤ tt; low = lit≤ tt } }
+column ZBar10 = record { entries = refl; adds-up = refl; largest-is = refl; halves = record { high = lit≤ tt; low = lit≤ tt } }
+column VPrime = record { entries = refl; adds-up = refl; largest-is = refl; halves = record { high = lit≤ tt; low = lit≤ tt } }
 
 pub powers-column : (i : Illuminant) → Column (powers i) (powersSum i) (powersTop i)
-unfolding powers sumOf largest illuminantA illuminantD65
-powers-column A = record { entries = refl; adds-up = refl; largest-is = refl }
-powers-column D65 = record { entries = refl; adds-up = refl; largest-is = refl }
-
-pub halves : (c : Curve) → Halves (table c)
-unfolding table total xBar yBar zBar xBar10 yBar10 zBar10 vPrime
-halves XBar = record { high = lit≤ tt; low = lit≤ tt }
-halves YBar = record { high = lit≤ tt; low = lit≤ tt }
-halves ZBar = record { high = lit≤ tt; low = lit≤ tt }
-halves XBar10 = record { high = lit≤ tt; low = lit≤ tt }
-halves YBar10 = record { high = lit≤ tt; low = lit≤ tt }
-halves ZBar10 = record { high = lit≤ tt; low = lit≤ tt }
-halves VPrime = record { high = lit≤ tt; low = lit≤ tt }
+unfolding powers total sumOf largest illuminantA illuminantD65
+powers-column A = record { entries = refl; adds-up = refl; largest-is = refl; halves = record { high = lit≤ tt; low = lit≤ tt } }
+powers-column D65 = record { entries = refl; adds-up = refl; largest-is = refl; halves = record { high = lit≤ tt; low = lit≤ tt } }
 
 -- no power is above 26,160,200, the largest of both illuminants
 pub power-bound : (i : Illuminant) (k : ℕ) → powerOf i k ≤ 26160200

@@ -23,9 +23,9 @@ curve-sum c = rw (column-total c) (few c)
     few ZBar10 = lit≤ tt
     few VPrime = lit≤ tt
 
-pub lit-sum : (i : Illuminant) (c : Curve) → total 471 (λ k. powerOf i k * weightOf c k) ≤ 52320400000000000000000
+pub lit-total : (i : Illuminant) (c : Curve) → total 471 (λ k. powerOf i k * weightOf c k) ≤ 52320400000000000000000
 unfolding weighted
-lit-sum i c =
+lit-total i c =
     rw (weighted-swap 471 (powerOf i) (weightOf c))
     (le-trans (weighted-bound 26160200 471 471 (weightOf c) (powerOf i) (power-bound i) (le-refl 471))
     (mul-le-mul-left 26160200 (curve-sum c)))

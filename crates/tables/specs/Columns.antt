@@ -14,11 +14,17 @@ unfoldable pub largest : List ℕ → ℕ
 largest [] = 0
 largest (x ∷ xs) = max x (largest xs)
 
--- 471 entries that add up to `sum`, of which `top` is the largest
+-- the halves of a table's entries, each added up, are so small that a row's sums fit 64 bits
+pub record Halves (weights : List ℕ) : Type 0 where
+  pub high : total 471 (λ k. getD weights k 0 / 2 ^ 32) ≤ 1000000000000
+  pub low : total 471 (λ k. getD weights k 0 % 2 ^ 32) ≤ 1000000000000
+
+-- 471 entries that add up to `sum`, of which `top` is the largest, and whose halves add up to little enough
 pub record Column (xs : List ℕ) (sum top : ℕ) : Type 0 where
   pub entries : length xs ≡ 471
   pub adds-up : sumOf xs ≡ sum
   pub largest-is : largest xs ≡ top
+  pub halves : Halves xs
 
 abbrev pub tableSum : Curve → ℕ
 tableSum XBar = 1068654694895950
@@ -45,8 +51,3 @@ powersSum D65 = 3918769960
 abbrev pub powersTop : Illuminant → ℕ
 powersTop A = 26160200
 powersTop D65 = 11781200
-
--- the halves of a table's entries, each added up, are so small that a row's sums fit 64 bits
-pub record Halves (weights : List ℕ) : Type 0 where
-  pub high : total 471 (λ k. getD weights k 0 / 2 ^ 32) ≤ 1000000000000
-  pub low : total 471 (λ k. getD weights k 0 % 2 ^ 32) ≤ 1000000000000

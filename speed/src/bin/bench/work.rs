@@ -113,7 +113,7 @@ const WRITING: Task = Task {
 pub const FIGURES: Task = Task {
     name: "figures",
     says: "seven figures of a spectrum",
-    target: Some(0.70),
+    target: Some(0.60),
     round: |library, work| {
         for light in &work.lights {
             let (start, step) = black_box((work.start, work.step));
@@ -147,7 +147,7 @@ pub const REPORT: Task = Task {
 const PANEL: Task = Task {
     name: "panel",
     says: "a panel, X, Y, Z and x, y",
-    target: Some(0.75),
+    target: Some(0.60),
     round: |library, work| {
         for panel in &work.panels {
             let (start, step) = black_box((work.start, work.step));

@@ -3,7 +3,7 @@ use mathlib.Core.Path.{_∙_}
 use borrow.Author.Tests.{ne-eqb}
 use Rattle.tables.specs.Curves.{table, powers}
 use Rattle.tables.specs.declared.Curve.the-variants.{XBar, YBar, ZBar, XBar10, YBar10, ZBar10}
-use Rattle.tables.proofs.Columns.{halves, power-bound}
+use Rattle.tables.proofs.Columns.{column, power-bound}
 use Rattle.curves.proofs.Product.{lit-exact}
 use borrow.Author.Needs.{needs}
 use Rattle.curves.proofs.lit.lit_sums.Statement.{statement}
@@ -35,9 +35,9 @@ lit-sums-by-requires c κs =
     let z = under .before .before in
     let y = z .before .before in
     let start = ten under .before in (
-      rw (y .before .before .x-bar-10 .ensures) (halves XBar10),
-      rw (y .y-bar-10 .ensures) (halves YBar10),
-      rw (z .z-bar-10 .ensures) (halves ZBar10),
+      rw (y .before .before .x-bar-10 .ensures) (column XBar10 .halves),
+      rw (y .y-bar-10 .ensures) (column YBar10 .halves),
+      rw (z .z-bar-10 .ensures) (column ZBar10 .halves),
       rw (under .powers-of .ensures) (power-bound (start .args .illuminant)),
       start .pre,
     )
@@ -61,9 +61,9 @@ lit-sums-by-requires-2 c κs =
     let z = under .before .before in
     let y = z .before .before in
     let start = two under .before in (
-      rw (y .before .before .x-bar .ensures) (halves XBar),
-      rw (y .y-bar .ensures) (halves YBar),
-      rw (z .z-bar .ensures) (halves ZBar),
+      rw (y .before .before .x-bar .ensures) (column XBar .halves),
+      rw (y .y-bar .ensures) (column YBar .halves),
+      rw (z .z-bar .ensures) (column ZBar .halves),
       rw (under .powers-of2 .ensures) (power-bound (start .args .illuminant)),
       start .pre,
     )

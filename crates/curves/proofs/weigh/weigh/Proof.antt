@@ -1,7 +1,7 @@
 -- In each arm the table that is lent is the curve's, and its halves add up to little enough.
 use Rattle.tables.specs.Curves.{table}
 use Rattle.tables.specs.declared.Curve.the-variants.{XBar, YBar, ZBar, XBar10, YBar10, ZBar10, VPrime}
-use Rattle.tables.proofs.Columns.{halves}
+use Rattle.tables.proofs.Columns.{column}
 use borrow.Author.Needs.{needs}
 use Rattle.curves.proofs.weigh.weigh.Statement.{statement}
 use Rattle.curves.proofs.weigh.weigh.Tie as tie
@@ -14,7 +14,7 @@ x-bar-requires c κs = search needs
 
 sum-requires : tie.Need-sum-requires
 unfolding table
-sum-requires c κs = (rw (c .before .x-bar .ensures) (halves XBar), c .before .before .before .before .pre)
+sum-requires c κs = (rw (c .before .x-bar .ensures) (column XBar .halves), c .before .before .before .before .pre)
 
 enum-told-2 : tie.Need-enum-told-2
 enum-told-2 c = search needs
@@ -24,7 +24,7 @@ y-bar-requires c κs = search needs
 
 sum-requires-2 : tie.Need-sum-requires-2
 unfolding table
-sum-requires-2 c κs = (rw (c .before .y-bar .ensures) (halves YBar), c .before .before .before .before .pre)
+sum-requires-2 c κs = (rw (c .before .y-bar .ensures) (column YBar .halves), c .before .before .before .before .pre)
 
 enum-told-3 : tie.Need-enum-told-3
 enum-told-3 c = search needs
@@ -34,7 +34,7 @@ z-bar-requires c κs = search needs
 
 sum-requires-3 : tie.Need-sum-requires-3
 unfolding table
-sum-requires-3 c κs = (rw (c .before .z-bar .ensures) (halves ZBar), c .before .before .before .before .pre)
+sum-requires-3 c κs = (rw (c .before .z-bar .ensures) (column ZBar .halves), c .before .before .before .before .pre)
 
 enum-told-4 : tie.Need-enum-told-4
 enum-told-4 c = search needs
@@ -44,7 +44,7 @@ x-bar-10-requires c κs = search needs
 
 sum-requires-4 : tie.Need-sum-requires-4
 unfolding table
-sum-requires-4 c κs = (rw (c .before .x-bar-10 .ensures) (halves XBar10), c .before .before .before .before .pre)
+sum-requires-4 c κs = (rw (c .before .x-bar-10 .ensures) (column XBar10 .halves), c .before .before .before .before .pre)
 
 enum-told-5 : tie.Need-enum-told-5
 enum-told-5 c = search needs
@@ -54,7 +54,7 @@ y-bar-10-requires c κs = search needs
 
 sum-requires-5 : tie.Need-sum-requires-5
 unfolding table
-sum-requires-5 c κs = (rw (c .before .y-bar-10 .ensures) (halves YBar10), c .before .before .before .before .pre)
+sum-requires-5 c κs = (rw (c .before .y-bar-10 .ensures) (column YBar10 .halves), c .before .before .before .before .pre)
 
 enum-told-6 : tie.Need-enum-told-6
 enum-told-6 c = search needs
@@ -64,7 +64,7 @@ z-bar-10-requires c κs = search needs
 
 sum-requires-6 : tie.Need-sum-requires-6
 unfolding table
-sum-requires-6 c κs = (rw (c .before .z-bar-10 .ensures) (halves ZBar10), c .before .before .before .before .pre)
+sum-requires-6 c κs = (rw (c .before .z-bar-10 .ensures) (column ZBar10 .halves), c .before .before .before .before .pre)
 
 enum-told-7 : tie.Need-enum-told-7
 enum-told-7 c = search needs
@@ -74,7 +74,7 @@ v-prime-requires c κs = search needs
 
 sum-requires-7 : tie.Need-sum-requires-7
 unfolding table
-sum-requires-7 c κs = (rw (c .before .v-prime .ensures) (halves VPrime), c .before .before .before .before .pre)
+sum-requires-7 c κs = (rw (c .before .v-prime .ensures) (column VPrime .halves), c .before .before .before .before .pre)
 
 returns : tie.Need-returns
 unfolding table

@@ -7,8 +7,8 @@ use lib.ListN.{length}
 use Rattle.spectrum.proofs.Light.{begun-small}
 use Rattle.panel.proofs.Weighed.{panel-sums}
 use borrow.Author.Needs.{needs}
-use Rattle.panel.proofs.lit.part_sums.Statement.{statement}
-use Rattle.panel.proofs.lit.part_sums.Tie as tie
+use Rattle.panel.proofs.part.part_sums.Statement.{statement}
+use Rattle.panel.proofs.part.part_sums.Tie as tie
 
 abbrev begin : tie.After-widen → tie.Start
 begin c = c .before .before .before

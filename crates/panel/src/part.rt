@@ -1,5 +1,4 @@
-// The three sums of an accepted panel. The summing is lent the part of the row that begins at the reflectance at or just
-// below 360 nm.
+// The three sums of the part of a panel's row that begins at the reflectance at or just below 360 nm.
 use crate::reflectances::widen;
 use curves::lit::lit_sums;
 use curves::weigh::Sums;

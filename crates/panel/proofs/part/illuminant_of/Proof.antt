@@ -1,7 +1,7 @@
 -- The test is that of `illuminantOf`.
 use borrow.Author.Tests.{ne-eqb}
-use Rattle.panel.proofs.lit.illuminant_of.Statement.{statement}
-use Rattle.panel.proofs.lit.illuminant_of.Tie as tie
+use Rattle.panel.proofs.part.illuminant_of.Statement.{statement}
+use Rattle.panel.proofs.part.illuminant_of.Tie as tie
 
 returns : tie.Need-returns
 returns c = rw (c .if1 .taken)
