@@ -1,7 +1,7 @@
 -- Power times row at a place, split at 2^21 as the code does it; and the weighted sum of such products, which passes no 96 bits.
 use mathlib.Core.Path.{_≡_, _∙_, ap, ap₂}
 use mathlib.Core.List.{List}
-use Prim.Native.Nat.{ℕ, _+_, _*_, _/_, _%_, _^_, _≤_, _<_}
+use Prim.Native.Nat.{ℕ, _*_, _/_, _%_, _^_, _≤_, _<_}
 use native.Mathlib.Nat.{mod-eq-of-lt, le-refl, le-trans, mul-le-mul, mul-le-mul-left, mul-comm, mul-assoc, mul-left-comm}
 use native.Mathlib.Omega.{arith}
 use lib.ListN.{getD}

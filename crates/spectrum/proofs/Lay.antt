@@ -1,6 +1,6 @@
 -- Rows that are laid place by place are, in the end, the definition's list.
 use mathlib.Core.Path.{_≡_, refl, _∙_, sym, ap, ap₂}
-use mathlib.Core.List.{List, [], _∷_}
+use mathlib.Core.List.{List, _∷_}
 use mathlib.Core.Bool.{Bool, true, false}
 use Prim.Native.Nat.{ℕ, zero, suc, _+_, _*_, _-_, _/_, _≤_, _<_}
 use native.Mathlib.Nat.{div-mul-le-self, lt-div-mul-add, lt-of-mul-lt-mul-left, zero-div, mul-zero, add-zero}

@@ -1,6 +1,6 @@
 -- Laws of T: on the line, outside the measured range, and from a sample in the middle of the row on.
 use mathlib.Core.Path.{_≡_, refl, _∙_, sym, ap}
-use mathlib.Core.Bool.{Bool, true, false, cond, _&&_, and-false}
+use mathlib.Core.Bool.{Bool, true, false, cond, and-false}
 use mathlib.Core.List.{List}
 use Prim.Native.Nat.{ℕ, _+_, _*_, _-_, _/_, _%_, _≤_, _<_, zero-le}
 use native.Mathlib.Nat.{mul-add-div, mul-add-mod-self-left, div-eq-of-lt, mod-lt, mod-eq-of-lt, add-zero, add-assoc, mul-le-mul-left}
@@ -8,7 +8,6 @@ use native.Mathlib.Omega.{arith}
 use borrow.Author.Tests.{le-leb, lt-leb}
 use lib.ListN.{length, getD, drop, length-drop}
 use lib.Seq.{getD-drop}
-use lib.Dec.{leb}
 use Rattle.grid.specs.Check.{lastOf, Within}
 use Rattle.mixing.specs.Mixture.{mix, Linear}
 use Rattle.mixing.proofs.Mixture.{getD-mix, length-mix, linear-weighted}

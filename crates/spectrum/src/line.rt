@@ -2,8 +2,8 @@
 use crate::walk::copy;
 use crate::walk::walk;
 ghost use mathlib.Core.Path.{_≡_};
-ghost use Prim.Native.Nat.{_+_, _*_, _-_, _/_, _^_, _<_, _≤_};
-ghost use lib.ListN.{length, getD};
+ghost use Prim.Native.Nat.{_+_, _*_, _-_, _/_, _<_, _≤_};
+ghost use lib.ListN.{length};
 ghost use Rattle.spectrum.specs.Line.{rowOf, Part, Unmeasured};
 ghost use Rattle.spectrum.specs.Begin.{Begins};
 

@@ -1,7 +1,7 @@
 -- The tables that are lent are the observer's and the illuminant's, so small that no sum passes 96 bits.
 use mathlib.Core.Path.{_∙_}
 use borrow.Author.Tests.{ne-eqb}
-use Rattle.tables.specs.Curves.{table, powers}
+use Rattle.tables.specs.Curves.{table}
 use Rattle.tables.specs.declared.Curve.the-variants.{XBar, YBar, ZBar, XBar10, YBar10, ZBar10}
 use Rattle.tables.proofs.Columns.{column, power-bound}
 use Rattle.curves.proofs.Product.{lit-exact}

@@ -1,7 +1,6 @@
 -- Each of the 471 places holds 0.
 use mathlib.Core.Path.{refl}
-use Prim.Native.Nat.{ℕ, _<_}
-use lib.ListN.{replicate, getD-replicate}
+use lib.ListN.{getD-replicate}
 use Rattle.spectrum.specs.Line.{endRule}
 use Rattle.spectrum.proofs.line.unmeasured.Statement.{statement}
 use Rattle.spectrum.proofs.line.unmeasured.Tie as tie

@@ -1,6 +1,6 @@
 -- The loop's invariant: the places up to the samples passed hold T.
 use mathlib.Core.Path.{_≡_, sym, _∙_}
-use Prim.Native.Nat.{_+_, _*_, _-_, _≤_, _<_}
+use Prim.Native.Nat.{_+_, _*_, _-_, _≤_}
 use native.Mathlib.Nat.{add-zero, add-assoc}
 use borrow.Author.Needs.{needs}
 use native.Mathlib.Omega.{arith}
