@@ -8,7 +8,7 @@ use native.Mathlib.Omega.{arith}
 use borrow.Author.Tests.{leb-true, ltb-true, eqb-true}
 use lib.Dec.{leb, ltb, eqb}
 use Rattle.grid.specs.Check.{gridCheck, isStep, isStart, isCount, lastOf, require, refusal}
-use Rattle.grid.specs.declared.Check.the-variants.{Fine, Refused}
+use Rattle.grid.specs.declared.Check.the-variants.{Fine}
 use Rattle.grid.proofs.Limit.{passed}
 
 -- a grid that is accepted
@@ -30,23 +30,6 @@ both false c e = absurd (let z : _≡_ {A = ℕ} 0 1 = cc in omega arith)
 either : (b c : Bool) → (b || c) ≡ true → (b ≡ true) ⊎ (c ≡ true)
 either true c e = inl refl
 either false c e = inr e
-
-module _ (a s n : ℕ) where
-  pub step-refused : isStep s ≡ false → gridCheck a s n ≡ Refused (refusal 1 0)
-  unfolding gridCheck
-  step-refused e = rw e
-
-  pub start-refused : isStep s ≡ true → isStart a ≡ false → gridCheck a s n ≡ Refused (refusal 2 0)
-  unfolding gridCheck
-  start-refused e f = rw (e, f)
-
-  pub count-refused : isStep s ≡ true → isStart a ≡ true → isCount a s n ≡ false → gridCheck a s n ≡ Refused (refusal 3 0)
-  unfolding gridCheck
-  count-refused e f g = rw (e, f, g)
-
-  pub grid-fine : isStep s ≡ true → isStart a ≡ true → isCount a s n ≡ true → gridCheck a s n ≡ Fine
-  unfolding gridCheck
-  grid-fine e f g = rw (e, f, g)
 
 pub step-cases : (s : ℕ) → isStep s ≡ true → (s ≡ 1) ⊎ ((s ≡ 2) ⊎ ((s ≡ 5) ⊎ (s ≡ 10)))
 step-cases s e =

@@ -1,10 +1,20 @@
--- The first test that fails gives its refusal.
-use mathlib.Core.Path.{sym, _∙_}
+-- Where the tests before it hold, the first that fails gives its refusal.
+use mathlib.Core.Path.{_≡_, sym, _∙_}
+use mathlib.Core.Bool.{true}
 use borrow.Author.Tests.{not-true, not-false}
-use Rattle.grid.proofs.Accepted.{step-refused, start-refused, count-refused, grid-fine}
+use Rattle.grid.specs.Check.{gridCheck, isStep, isStart}
 use borrow.Author.Needs.{needs}
 use Rattle.grid.proofs.check_grid.Statement.{statement}
 use Rattle.grid.proofs.check_grid.Tie as tie
+
+abbrev begin : tie.Else1 → tie.Start
+begin c = c .before .before
+
+step-holds : (c : tie.Else1) → isStep (begin c .args .step) ≡ true
+step-holds c = sym (c .before .is-step .ensures) ∙ not-false _ (c .if1 .left)
+
+start-holds : (c : tie.Else2) → isStart (begin (c .before .before) .args .start) ≡ true
+start-holds c = sym (c .before .is-start .ensures) ∙ not-false _ (c .if2 .left)
 
 is-step-requires : tie.Need-is-step-requires
 is-step-requires c κs = search needs
@@ -13,7 +23,8 @@ refused-requires : tie.Need-refused-requires
 refused-requires c κs = search needs
 
 returns : tie.Need-returns
-returns c = c .refused .ensures ∙ sym (step-refused (c .before .before .before .args .start) (c .before .before .before .args .step) (c .before .before .before .args .count) (sym (c .before .before .is-step .ensures) ∙ not-true _ (c .before .if1 .taken)))
+unfolding gridCheck
+returns c = rw (sym (c .before .before .is-step .ensures) ∙ not-true _ (c .before .if1 .taken)) (c .refused .ensures)
 
 is-start-requires : tie.Need-is-start-requires
 is-start-requires c κs = search needs
@@ -22,23 +33,29 @@ refused-requires-2 : tie.Need-refused-requires-2
 refused-requires-2 c κs = search needs
 
 returns-2 : tie.Need-returns-2
+unfolding gridCheck
 returns-2 c =
-    c .refused2 .ensures ∙ sym (start-refused (c .before .before .before .before .before .args .start) (c .before .before .before .before .before .args .step) (c .before .before .before .before .before .args .count) (sym (c .before .before .before .before .is-step .ensures) ∙ not-false _ (c .before .before .before .if1 .left)) (sym (c .before .before .is-start .ensures) ∙ not-true _ (c .before .if2 .taken)))
+    let start = c .before .before in
+    rw (step-holds (start .before), sym (start .is-start .ensures) ∙ not-true _ (c .before .if2 .taken)) (c .refused2 .ensures)
 
 is-count-requires : tie.Need-is-count-requires
-is-count-requires c κs = ((sym (c .before .before .before .is-step .ensures) ∙ not-false _ (c .before .before .if1 .left)), (sym (c .before .is-start .ensures) ∙ not-false _ (c .if2 .left)))
+is-count-requires c κs = (step-holds (c .before .before), start-holds c)
 
 refused-requires-3 : tie.Need-refused-requires-3
 refused-requires-3 c κs = search needs
 
 returns-3 : tie.Need-returns-3
+unfolding gridCheck
 returns-3 c =
-    c .refused3 .ensures
-    ∙ sym (count-refused (c .before .before .before .before .before .before .before .args .start) (c .before .before .before .before .before .before .before .args .step) (c .before .before .before .before .before .before .before .args .count) (sym (c .before .before .before .before .before .before .is-step .ensures) ∙ not-false _ (c .before .before .before .before .before .if1 .left)) (sym (c .before .before .before .before .is-start .ensures) ∙ not-false _ (c .before .before .before .if2 .left)) (sym (c .before .before .is-count .ensures) ∙ not-true _ (c .before .if3 .taken)))
+    let count = c .before .before in
+    let start = count .before in
+    rw (step-holds (start .before .before), start-holds start, sym (count .is-count .ensures) ∙ not-true _ (c .before .if3 .taken)) (c .refused3 .ensures)
 
 returns-4 : tie.Need-returns-4
+unfolding gridCheck
 returns-4 c =
-    sym (grid-fine (c .before .before .before .before .before .before .args .start) (c .before .before .before .before .before .before .args .step) (c .before .before .before .before .before .before .args .count) (sym (c .before .before .before .before .before .is-step .ensures) ∙ not-false _ (c .before .before .before .before .if1 .left)) (sym (c .before .before .before .is-start .ensures) ∙ not-false _ (c .before .before .if2 .left)) (sym (c .before .is-count .ensures) ∙ not-false _ (c .if3 .left)))
+    let start = c .before .before in
+    rw (step-holds (start .before .before), start-holds start, sym (c .before .is-count .ensures) ∙ not-false _ (c .if3 .left))
 
 pub check-grid-spec : {M : Type 1} → statement M
 check-grid-spec =

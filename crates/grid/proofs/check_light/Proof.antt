@@ -8,6 +8,13 @@ use borrow.Author.Needs.{needs}
 use Rattle.grid.proofs.check_light.Statement.{statement}
 use Rattle.grid.proofs.check_light.Tie as tie
 
+abbrev begin : tie.After-enum-told → tie.Start
+begin c = c .before .before .before .before
+
+-- the grid is accepted in this arm
+on-grid : (c : tie.After-enum-told) → gridCheck (begin c .args .start) (begin c .args .step) (length (begin c .args .samples .now)) ≡ Fine
+on-grid c = sym (c .before .before .check-grid .ensures) ∙ c .enum-told .given .1
+
 check-grid-requires : tie.Need-check-grid-requires
 check-grid-requires c κs = search needs
 
@@ -16,19 +23,14 @@ enum-told c = search needs
 
 -- a grid that is accepted has no more than 531 samples
 check-samples-requires : tie.Need-check-samples-requires
-check-samples-requires c κs =
-    let s = c .before .before .before .before .args in
-    accepted (s .start) (s .step) (length (s .samples .now)) (cc) .many
+check-samples-requires c κs = let t = begin c .args in accepted (t .start) (t .step) (length (t .samples .now)) (on-grid c) .many
 
 enum-known-on-grid : tie.Need-enum-known-on-grid
 enum-known-on-grid c = search needs
 
 returns : tie.Need-returns
 unfolding lightCheck
-returns c =
-    let s = c .before .before .before .before .before .args in
-    let e : gridCheck (s .start) (s .step) (length (s .samples .now)) ≡ Fine = cc in
-    rw e (c .check-samples .ensures)
+returns c = rw (on-grid (c .before)) (c .check-samples .ensures)
 
 returns-2 : tie.Need-returns-2
 unfolding lightCheck

@@ -9,7 +9,9 @@ no-fault-requires : tie.Need-no-fault-requires
 no-fault-requires c κs = search needs
 
 returns : tie.Need-returns
-returns c = sym (within-fine (c .before .before .before .args .number) (c .before .before .before .args .limit) 0 (c .before .before .before .args .samples .now) (c .before .no-fault .ensures (c .if1 .taken)))
+returns c =
+    let s = c .before .before .before .args in
+    sym (within-fine (s .number) (s .limit) 0 (s .samples .now) (c .before .no-fault .ensures (c .if1 .taken)))
 
 first-fault-requires : tie.Need-first-fault-requires
 first-fault-requires c κs = search needs

@@ -42,7 +42,10 @@ loop-less : tie.Need-loop-less Inv-loop μ-loop
 loop-less c = omega arith
 
 loop-again : tie.Need-loop-again Inv-loop μ-loop
-loop-again c = (omega arith, below-more (λ j. getD (c .before .before .before .before .args .samples .now) j 0 ≤ c .before .before .before .before .args .limit) (c .before .before .before .loop .k) (c .before .before .before .loop .inv .1) (c .if1 .left))
+loop-again c =
+    let turn = c .before .before .before in
+    let s = turn .before .args in
+    (omega arith, below-more (λ j. getD (s .samples .now) j 0 ≤ s .limit) (turn .loop .k) (turn .loop .inv .1) (c .if1 .left))
 
 returns-2 : tie.Need-returns-2 Inv-loop μ-loop
 returns-2 c =

@@ -1,4 +1,4 @@
--- Two tests.
+-- The two numbers are those of isObserver.
 use borrow.Author.Tests.{ne-eqb}
 use Rattle.grid.proofs.is_observer.Statement.{statement}
 use Rattle.grid.proofs.is_observer.Tie as tie

@@ -1,4 +1,4 @@
--- Two tests.
+-- The two bounds are those of isStart.
 use borrow.Author.Tests.{le-leb, lt-leb}
 use Rattle.grid.proofs.is_start.Statement.{statement}
 use Rattle.grid.proofs.is_start.Tie as tie

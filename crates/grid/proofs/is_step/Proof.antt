@@ -1,4 +1,4 @@
--- Each arm is one of the tests.
+-- The match has the four steps of isStep and no other.
 use borrow.Author.Tests.{ne-eqb}
 use Rattle.grid.proofs.is_step.Statement.{statement}
 use Rattle.grid.proofs.is_step.Tie as tie
