@@ -1,8 +1,7 @@
 -- Each quotient is cut at 2^32, which tells whether all three fit.
-use mathlib.Core.Path.{sym}
-use Prim.Native.Nat.{_*_}
-use Rattle.exact.specs.Value.{short}
-use Rattle.answers.proofs.Fitting.{xyz-fits, x-over, y-over, z-over}
+use mathlib.Core.Bool.{and-false}
+use Rattle.answers.specs.Worked.{xyzFrom}
+use Rattle.answers.proofs.Fitting.{fits, over}
 use borrow.Author.Needs.{needs}
 use Rattle.answers.proofs.work.xyz_from.Statement.{statement}
 use Rattle.answers.proofs.work.xyz_from.Tie as tie
@@ -26,20 +25,25 @@ cast-t15 : tie.Need-cast-t15
 cast-t15 c = search needs
 
 returns : tie.Need-returns
+unfolding xyzFrom
 returns c =
-    sym (xyz-fits (short (c .before .before .before .before .before .before .before .before .before .args .sums .x) * c .before .before .before .before .before .before .before .before .before .args .f) (short (c .before .before .before .before .before .before .before .before .before .args .sums .y) * c .before .before .before .before .before .before .before .before .before .args .f) (short (c .before .before .before .before .before .before .before .before .before .args .sums .z) * c .before .before .before .before .before .before .before .before .before .args .f) (short (c .before .before .before .before .before .before .before .before .before .args .d)) _ _ _ (c .before .before .before .before .before .nearest .ensures) (c .before .before .before .before .nearest2 .ensures) (c .before .before .before .nearest3 .ensures) (c .before .before .if1 .taken) (c .before .if2 .taken) (c .if3 .taken))
+    let worked = c .before .before .before in
+    let x = fits _ _ (worked .before .before .nearest .ensures) (c .before .before .if1 .taken) in
+    let y = fits _ _ (worked .before .nearest2 .ensures) (c .before .if2 .taken) in
+    let z = fits _ _ (worked .nearest3 .ensures) (c .if3 .taken) in
+    rw (x .0, y .0, z .0, x .1, y .1, z .1)
 
 returns-2 : tie.Need-returns-2
-returns-2 c =
-    sym (z-over (short (c .before .before .before .before .before .before .before .before .before .args .sums .x) * c .before .before .before .before .before .before .before .before .before .args .f) (short (c .before .before .before .before .before .before .before .before .before .args .sums .y) * c .before .before .before .before .before .before .before .before .before .args .f) (short (c .before .before .before .before .before .before .before .before .before .args .sums .z) * c .before .before .before .before .before .before .before .before .before .args .f) (short (c .before .before .before .before .before .before .before .before .before .args .d)) _ _ _ (c .before .before .before .before .before .nearest .ensures) (c .before .before .before .before .nearest2 .ensures) (c .before .before .before .nearest3 .ensures) (c .if3 .left))
+unfolding xyzFrom
+returns-2 c = rw (over _ _ (c .before .before .before .nearest3 .ensures) (c .if3 .left), and-false)
 
 returns-3 : tie.Need-returns-3
-returns-3 c =
-    sym (y-over (short (c .before .before .before .before .before .before .before .before .args .sums .x) * c .before .before .before .before .before .before .before .before .args .f) (short (c .before .before .before .before .before .before .before .before .args .sums .y) * c .before .before .before .before .before .before .before .before .args .f) (short (c .before .before .before .before .before .before .before .before .args .sums .z) * c .before .before .before .before .before .before .before .before .args .f) (short (c .before .before .before .before .before .before .before .before .args .d)) _ _ _ (c .before .before .before .before .nearest .ensures) (c .before .before .before .nearest2 .ensures) (c .before .before .nearest3 .ensures) (c .if2 .left))
+unfolding xyzFrom
+returns-3 c = let worked = c .before .before in rw (over _ _ (worked .before .nearest2 .ensures) (c .if2 .left), and-false)
 
 returns-4 : tie.Need-returns-4
-returns-4 c =
-    sym (x-over (short (c .before .before .before .before .before .before .before .args .sums .x) * c .before .before .before .before .before .before .before .args .f) (short (c .before .before .before .before .before .before .before .args .sums .y) * c .before .before .before .before .before .before .before .args .f) (short (c .before .before .before .before .before .before .before .args .sums .z) * c .before .before .before .before .before .before .before .args .f) (short (c .before .before .before .before .before .before .before .args .d)) _ _ _ (c .before .before .before .nearest .ensures) (c .before .before .nearest2 .ensures) (c .before .nearest3 .ensures) (c .if1 .left))
+unfolding xyzFrom
+returns-4 c = let worked = c .before in rw (over _ _ (worked .before .before .nearest .ensures) (c .if1 .left))
 
 pub xyz-from-spec : {M : Type 1} → statement M
 xyz-from-spec =
