@@ -1,4 +1,4 @@
--- Each promise is an instance of the laws.
+-- Each sum is linear in the samples, so the laws of mixed light hold of each reading.
 use Rattle.tables.specs.declared.Curve.the-variants.{YBar, VPrime, YBar10}
 use Rattle.readings.proofs.Instances.{accepted, illuminance-unit, mesopic-unit, xyz-mixed, between, one-dark}
 use Rattle.readings.proofs.promises.promise_mixing.Statement.{statement}

@@ -1,4 +1,4 @@
--- Each promise is an instance of the laws.
+-- Each sum is linear in the samples, so lights in order have readings in order.
 use Rattle.tables.specs.declared.Curve.the-variants.{YBar, VPrime, YBar10}
 use Rattle.readings.proofs.Instances.{illuminance-order, mesopic-order, xyz-ordered}
 use Rattle.readings.proofs.promises.promise_order.Statement.{statement}
