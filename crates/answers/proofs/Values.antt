@@ -1,8 +1,9 @@
--- What an answer's number says of the sums that it is worked from: its values, or that they are dark.
+-- Answers and the sums that they are worked from: what the number says of them, and where a factor stands.
 use mathlib.Core.Path.{_≡_, refl}
 use mathlib.Core.Bool.{Bool, true, false, cond, _&&_}
 use mathlib.Core.List.{List, [], _∷_}
 use Prim.Native.Nat.{ℕ, _+_, _*_, _≤_, _<_}
+use native.Mathlib.Nat.{mul-comm}
 use native.Mathlib.Omega.{arith}
 use borrow.Author.Tests.{eqb-true, eqb-false, ne-eqb, le-leb}
 use lib.Dec.{eqb}
@@ -49,6 +50,10 @@ module _ (x y z d : ℕ) where
   unfolding xyzFrom
   xyz-given p q r =
       rw (le-leb (nearest x d) 4294967295 p, le-leb (nearest y d) 4294967295 q, le-leb (nearest z d) 4294967295 r)
+
+  -- a factor of all three may stand on either side
+  pub xyz-factor : (f : ℕ) → xyzFrom (x * f) (y * f) (z * f) d ≡ xyzFrom (f * x) (f * y) (f * z) d
+  xyz-factor f = rw (mul-comm x f, mul-comm y f, mul-comm z f)
 
 module _ (x y z : ℕ) where
   -- coordinates that are given have a divisor

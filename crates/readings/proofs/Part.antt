@@ -1,40 +1,72 @@
--- What is summed over the part of an accepted light that begins at or just below 360 is summed over the light.
+-- What is known of an accepted light, and of its part that begins at or just below 360: the part is summed as the light is.
 use mathlib.Core.Path.{_≡_, _∙_}
 use mathlib.Core.List.{List}
-use Prim.Native.Nat.{ℕ, _≤_, _<_}
+use Prim.Native.Nat.{ℕ, _+_, _^_, _≤_, _<_}
+use native.Mathlib.Omega.{arith}
 use lib.ListN.{length}
 use Rattle.grid.specs.declared.Check.the-variants.{Fine}
-use Rattle.grid.specs.Check.{lightCheck}
+use Rattle.grid.specs.Check.{refusal, isObserver, lightCheck}
+use Rattle.grid.proofs.Limit.{passed}
 use Rattle.grid.proofs.Light.{within, on-grid}
+use Rattle.exact.specs.Value.{short}
 use Rattle.tables.specs.declared.Curve.{Curve}
-use Rattle.curves.specs.declared.weigh.Sums.{Sums}
 use Rattle.tables.specs.Curves.{weightOf}
+use Rattle.curves.specs.declared.weigh.Sums.{Sums}
+use Rattle.curves.specs.Colour.{colourOf}
 use Rattle.spectrum.specs.Begin.{Begins, Begun}
 use Rattle.spectrum.specs.declared.line.Begin.{Begin}
 use Rattle.spectrum.proofs.Begin.{partFrom, W-begun}
 use Rattle.spectrum.proofs.Begin as begin
-use Rattle.curves.specs.Colour.{colourOf}
-use Rattle.readings.specs.Readings.{weighed}
+use Rattle.readings.specs.Readings.{weighed, colourCheck}
 use Rattle.readings.specs.Colour.{LightSums}
+use Rattle.readings.proofs.Small.{sum-small}
 
-module _ (a s : ℕ) (xs : List ℕ) (fine : lightCheck a s xs ≡ Fine) where
+-- a light that passed its checks
+pub record AcceptedLight (a s : ℕ) (xs : List ℕ) : Type 0 where
+  pub fine : lightCheck a s xs ≡ Fine
+
+module _ {a s : ℕ} {xs : List ℕ} (light : AcceptedLight a s xs) where
   -- 360 can be looked for
   pub sought : (0 < s) × (a ≤ 380)
-  sought = let on = on-grid a s xs fine in (on .step-low, on .start-high)
+  sought = let on = on-grid a s xs (light .fine) in (on .step-low, on .start-high)
 
-  module _ (b : Begin) (is : Begins a s b) where
-    pub few : b .place ≤ length xs
-    few = begin.few a s xs (on-grid a s xs fine) b is
+  pub step-small : s ≤ 10
+  step-small = on-grid a s xs (light .fine) .step-high
 
-    pub begun : Begun 1000000 (b .wavelength) s (partFrom (b .place) xs)
-    begun = begin.begun a s xs (on-grid a s xs fine) b is 1000000 (within a s xs fine)
+  -- the sum of its three sums is a number of 96 bits
+  pub total-small : {o : ℕ} {sums : Sums} → LightSums o a s xs sums → short (sums .x) + short (sums .y) + short (sums .z) < 2 ^ 96
+  total-small {o} is =
+      let small = sum-small a s xs (sought .0) step-small (within a s xs (light .fine)) in
+      let x = small (colourOf o .x) in
+      let y = small (colourOf o .y) in
+      let z = small (colourOf o .z) in
+      rw (is .x, is .y, is .z) (omega arith)
 
-    pub weighed-begun : (c : Curve) → weighed c (b .wavelength) s (partFrom (b .place) xs) ≡ weighed c a s xs
-    weighed-begun c = W-begun a s xs (on-grid a s xs fine) b is (weightOf c)
+-- one whose observer passed too
+pub record AcceptedColour (o a s : ℕ) (xs : List ℕ) : Type 0 where
+  pub fine : colourCheck o a s xs ≡ Fine
 
-    pub colour-begun : (o : ℕ) (sums : Sums) → LightSums o (b .wavelength) s (partFrom (b .place) xs) sums → LightSums o a s xs sums
-    colour-begun o sums part = record {
-      x = part .x ∙ weighed-begun (colourOf o .x);
-      y = part .y ∙ weighed-begun (colourOf o .y);
-      z = part .z ∙ weighed-begun (colourOf o .z);
-    }
+pub light-of : {o a s : ℕ} {xs : List ℕ} → AcceptedColour o a s xs → AcceptedLight a s xs
+light-of {o} {a} {s} {xs} colour = record { fine = passed (isObserver o) (lightCheck a s xs) (refusal 6 0) (colour .fine) .1 }
+
+-- where its part begins
+pub record BegunLight (a s : ℕ) (xs : List ℕ) (b : Begin) : Type 0 where
+  pub light : AcceptedLight a s xs
+  pub begins : Begins a s b
+
+module _ {a s : ℕ} {xs : List ℕ} {b : Begin} (part : BegunLight a s xs b) where
+  pub in-row : b .place ≤ length xs
+  in-row = begin.few a s xs (on-grid a s xs (part .light .fine)) b (part .begins)
+
+  pub begun : Begun 1000000 (b .wavelength) s (partFrom (b .place) xs)
+  begun = let fine = part .light .fine in begin.begun a s xs (on-grid a s xs fine) b (part .begins) 1000000 (within a s xs fine)
+
+  pub weighed-begun : (c : Curve) → weighed c (b .wavelength) s (partFrom (b .place) xs) ≡ weighed c a s xs
+  weighed-begun c = W-begun a s xs (on-grid a s xs (part .light .fine)) b (part .begins) (weightOf c)
+
+  pub colour-begun : {o : ℕ} {sums : Sums} → LightSums o (b .wavelength) s (partFrom (b .place) xs) sums → LightSums o a s xs sums
+  colour-begun {o} is = record {
+    x = is .x ∙ weighed-begun (colourOf o .x);
+    y = is .y ∙ weighed-begun (colourOf o .y);
+    z = is .z ∙ weighed-begun (colourOf o .z);
+  }

@@ -1,39 +1,21 @@
 -- The sums of an accepted light are small enough for every reading's arithmetic.
 use mathlib.Core.Path.{_≡_, _∙_}
 use mathlib.Core.List.{List}
-use Prim.Native.Nat.{ℕ, _+_, _*_, _%_, _^_, _≤_, _<_}
+use Prim.Native.Nat.{ℕ, _+_, _*_, _%_, _^_, _≤_}
 use native.Mathlib.Nat.{mod-eq-of-lt, le-trans, mul-le-mul, mul-le-mul-right}
 use native.Mathlib.Omega.{arith}
-use Rattle.grid.specs.declared.Check.the-variants.{Fine}
-use Rattle.grid.specs.Check.{refusal, isObserver, lightCheck, Within}
-use Rattle.grid.proofs.Limit.{passed}
+use Rattle.grid.specs.Check.{Within}
 use Rattle.tables.specs.declared.Curve.{Curve}
 use Rattle.tables.specs.Curves.{weightOf}
 use Rattle.tables.proofs.Sums.{curve-sum}
-use Rattle.grid.proofs.Light.{within, on-grid}
 use Rattle.spectrum.proofs.Light.{W-bound}
-use Rattle.curves.specs.Colour.{colourOf}
-use Rattle.readings.specs.Readings.{weighed, colourCheck, xSum, ySum, zSum}
-
--- a colour that is accepted is one of an accepted light
-pub colour-fine : (o a s : ℕ) (xs : List ℕ) → colourCheck o a s xs ≡ Fine → lightCheck a s xs ≡ Fine
-colour-fine o a s xs fine = passed (isObserver o) (lightCheck a s xs) (refusal 6 0) fine .1
+use Rattle.readings.specs.Readings.{weighed}
 
 pub sum-small :
     (a s : ℕ) (xs : List ℕ) → 1 ≤ s → s ≤ 10 → Within 1000000 xs → (c : Curve) → weighed c a s xs ≤ 20000000000000000000000
 sum-small a s xs low high within c =
     le-trans (W-bound (weightOf c) a s 1000000 xs low within)
     (mul-le-mul (mul-le-mul-right 1000000 high) (curve-sum c))
-
-module _ (a s : ℕ) (xs : List ℕ) (fine : lightCheck a s xs ≡ Fine) where
-  pub colour-small : (o : ℕ) → xSum o a s xs + ySum o a s xs + zSum o a s xs < 2 ^ 96
-  colour-small o =
-      let on = on-grid a s xs fine in
-      let small = sum-small a s xs (on .step-low) (on .step-high) (within a s xs fine) in
-      let x = small (colourOf o .x) in
-      let y = small (colourOf o .y) in
-      let z = small (colourOf o .z) in
-      omega arith
 
 -- the mesopic sum and divisor, as they are worked, pass no 96 bits
 pub mesopic-sum-kept :

@@ -1,25 +1,22 @@
 -- The sum over the part is an accepted light's, and is divided once.
-use mathlib.Core.Path.{_≡_, _∙_, sym}
-use Prim.Native.Nat.{_≤_}
-use native.Mathlib.Omega.{arith}
-use lib.ListN.{length}
+use mathlib.Core.Path.{_∙_, sym}
 use native.Mathlib.Nat.{mul-comm}
-use Rattle.grid.specs.declared.Check.the-variants.{Fine}
-use Rattle.grid.specs.Check.{lightCheck}
-use Rattle.grid.proofs.Light.{on-grid}
+use native.Mathlib.Omega.{arith}
 use Rattle.readings.specs.Readings.{illuminanceOf}
-use Rattle.readings.proofs.Part.{sought, few, begun, weighed-begun}
+use Rattle.readings.proofs.Part.{AcceptedLight, sought, step-small, BegunLight, in-row, begun, weighed-begun}
 use borrow.Author.Needs.{needs}
 use Rattle.readings.proofs.illuminance.Statement.{statement}
 use Rattle.readings.proofs.illuminance.Tie as tie
 
--- the light is accepted in this arm
-fine : (c : tie.After-enum-told) → lightCheck (c .before .before .before .before .args .start) (c .before .before .before .before .args .step) (c .before .before .before .before .args .samples .now) ≡ Fine
-fine c = sym (c .before .before .check-light .ensures) ∙ c .enum-told .given .1
+abbrev begin : tie.After-enum-told → tie.Start
+begin c = c .before .before .before .before
 
--- where 360 was looked for: the place found lies in the row
-in-row : (c : tie.After-begin-at-360) → c .begin-at-360 .result .place ≤ length (c .before .before .before .before .before .args .samples .now)
-in-row c = let s = c .before .before .before .before .before in few (s .args .start) (s .args .step) (s .args .samples .now) (fine (c .before)) (c .begin-at-360 .result) (c .begin-at-360 .ensures)
+light : (c : tie.After-enum-told) → let t = begin c .args in AcceptedLight (t .start) (t .step) (t .samples .now)
+light c = record { fine = sym (c .before .before .check-light .ensures) ∙ c .enum-told .given .1 }
+
+part :
+    (c : tie.After-begin-at-360) → let t = begin (c .before) .args in BegunLight (t .start) (t .step) (t .samples .now) (c .begin-at-360 .result)
+part c = record { light = light (c .before); begins = c .begin-at-360 .ensures }
 
 check-light-requires : tie.Need-check-light-requires
 check-light-requires c κs = search needs
@@ -28,31 +25,25 @@ enum-told : tie.Need-enum-told
 enum-told c = search needs
 
 begin-at-360-requires : tie.Need-begin-at-360-requires
-begin-at-360-requires c κs = let s = c .before .before .before .before in sought (s .args .start) (s .args .step) (s .args .samples .now) (fine c)
+begin-at-360-requires c κs = sought (light c)
 
 mul-weighed : tie.Need-mul-weighed
-mul-weighed c = omega (arith, in-row c)
+mul-weighed c = omega (arith, in-row (part c))
 
 sub-weighed : tie.Need-sub-weighed
-sub-weighed c = in-row c
+sub-weighed c = in-row (part c)
 
 part-weighed-start : tie.Need-part-weighed-start
-part-weighed-start c = in-row c
+part-weighed-start c = in-row (part c)
 
 part-weighed-end : tie.Need-part-weighed-end
 part-weighed-end c = search needs
 
 weighed-requires : tie.Need-weighed-requires
-weighed-requires c κs =
-    let begin = c .before in
-    let s = begin .before .before .before .before .before in
-    begun (s .args .start) (s .args .step) (s .args .samples .now) (fine (begin .before)) (begin .begin-at-360 .result) (begin .begin-at-360 .ensures)
+weighed-requires c κs = begun (part (c .before))
 
 scale-requires : tie.Need-scale-requires
-scale-requires c κs =
-    let told = c .before .before .before in
-    let s = told .before .before .before .before in
-    on-grid (s .args .start) (s .args .step) (s .args .samples .now) (fine told) .step-high
+scale-requires c κs = step-small (light (c .before .before .before))
 
 reading-from-requires : tie.Need-reading-from-requires
 reading-from-requires c κs = search needs
@@ -63,11 +54,9 @@ enum-known-check c = search needs
 returns : tie.Need-returns
 unfolding illuminanceOf
 returns c =
-    let begin = c .before .before .before .before in
-    let s = begin .before .before .before .before .before in
-    let t = s .args in
-    let whole = weighed-begun (t .start) (t .step) (t .samples .now) (fine (begin .before)) (begin .begin-at-360 .result) (begin .begin-at-360 .ensures) (t .curve) in
-    c .reading-from .ensures ∙ rw (c .before .before .weighed .ensures ∙ whole, c .before .scale .ensures, mul-comm, fine (begin .before))
+    let sum = c .before .before in
+    let is = part (sum .before .before) in
+    rw (c .reading-from .ensures, sum .weighed .ensures, weighed-begun is, c .before .scale .ensures, mul-comm, is .light .fine)
 
 returns-2 : tie.Need-returns-2
 unfolding illuminanceOf

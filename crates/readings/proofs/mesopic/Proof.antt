@@ -1,6 +1,8 @@
 -- The setting is checked first, and then the light.
 use mathlib.Core.Path.{_≡_, _∙_, sym}
+use mathlib.Core.Bool.{true}
 use borrow.Author.Tests.{le-leb, lt-leb}
+use lib.Dec.{leb}
 use Rattle.grid.specs.declared.Check.the-variants.{Fine}
 use Rattle.grid.specs.Check.{lightCheck}
 use Rattle.readings.specs.Readings.{mesopicOf}
@@ -8,7 +10,13 @@ use borrow.Author.Needs.{needs}
 use Rattle.readings.proofs.mesopic.Statement.{statement}
 use Rattle.readings.proofs.mesopic.Tie as tie
 
-fine : (c : tie.After-enum-told) → lightCheck (c .before .before .before .before .before .args .start) (c .before .before .before .before .before .args .step) (c .before .before .before .before .before .args .samples .now) ≡ Fine
+abbrev begin : tie.After-check-light → tie.Start
+begin c = c .before .before .before
+
+setting : (c : tie.After-check-light) → leb (begin c .args .k) 1000 ≡ true
+setting c = le-leb _ _ (c .before .if1 .left)
+
+fine : (c : tie.After-enum-told) → let t = begin (c .before .before) .args in lightCheck (t .start) (t .step) (t .samples .now) ≡ Fine
 fine c = sym (c .before .before .check-light .ensures) ∙ c .enum-told .given .1
 
 returns : tie.Need-returns
@@ -29,13 +37,13 @@ enum-known-check c = search needs
 
 returns-2 : tie.Need-returns-2
 unfolding mesopicOf
-returns-2 c = rw (le-leb (c .before .before .before .before .before .before .args .k) 1000 (c .before .before .before .before .if1 .left), fine (c .before)) (c .mesopic-of-light .ensures)
+returns-2 c = let told = c .before in rw (setting (told .before .before), fine told) (c .mesopic-of-light .ensures)
 
 returns-3 : tie.Need-returns-3
 unfolding mesopicOf
 returns-3 c =
-    rw
-    (le-leb (c .before .before .before .before .before .before .args .k) 1000 (c .before .before .before .before .if1 .left), sym (c .before .before .before .check-light .ensures) ∙ c .before .check .given .1)
+    let checked = c .before .before .before in
+    rw (setting checked, sym (checked .check-light .ensures) ∙ c .before .check .given .1)
 
 pub mesopic-spec : {M : Type 1} → statement M
 mesopic-spec =

@@ -1,60 +1,61 @@
 -- The sum over the part is the light's, and the divisor passes no 96 bits.
 use mathlib.Core.Path.{_≡_, _∙_}
-use Prim.Native.Nat.{_+_, _*_, _-_, _^_, _≤_}
+use Prim.Native.Nat.{_+_, _*_, _-_, _^_}
 use native.Mathlib.Nat.{mul-comm}
 use native.Mathlib.Omega.{arith}
-use lib.ListN.{length}
 use Rattle.exact.specs.Value.{short}
 use Rattle.tables.specs.declared.Curve.the-variants.{YBar, VPrime}
-use Rattle.grid.proofs.Light.{on-grid}
 use Rattle.readings.specs.Readings.{mesopicWeighed, mesopicDivisor}
 use Rattle.readings.proofs.Small.{mesopic-divisor-kept}
-use Rattle.readings.proofs.Part.{sought, few, begun, weighed-begun}
+use Rattle.readings.proofs.Part.{AcceptedLight, sought, step-small, BegunLight, in-row, begun, weighed-begun}
 use borrow.Author.Needs.{needs}
 use Rattle.readings.proofs.mesopic_of_light.Statement.{statement}
 use Rattle.readings.proofs.mesopic_of_light.Tie as tie
 
--- where 360 was looked for: the place found lies in the row
-in-row : (c : tie.After-begin-at-360) → c .begin-at-360 .result .place ≤ length (c .before .before .args .samples .now)
-in-row c = let s = c .before .before in few (s .args .start) (s .args .step) (s .args .samples .now) (s .pre .1) (c .begin-at-360 .result) (c .begin-at-360 .ensures)
+light : (s : tie.Start) → AcceptedLight (s .args .start) (s .args .step) (s .args .samples .now)
+light s = record { fine = s .pre .1 }
 
-abbrev begin : tie.After-mesopic-weighed → tie.After-begin-at-360
-begin c = c .before .before
+part : (c : tie.After-begin-at-360) → let t = c .before .before .args in BegunLight (t .start) (t .step) (t .samples .now) (c .begin-at-360 .result)
+part c = record { light = light (c .before .before); begins = c .begin-at-360 .ensures }
 
-sum-is : (c : tie.After-mesopic-weighed) → short (c .mesopic-weighed .result) ≡ mesopicWeighed (begin c .before .before .args .k) (begin c .before .before .args .start) (begin c .before .before .args .step) (begin c .before .before .args .samples .now)
+abbrev begin : tie.After-mesopic-weighed → tie.Start
+begin c = c .before .before .before .before
+
+sum-is :
+    (c : tie.After-mesopic-weighed) →
+    let t = begin c .args in short (c .mesopic-weighed .result) ≡ mesopicWeighed (t .k) (t .start) (t .step) (t .samples .now)
 sum-is c =
-    let s = begin c .before .before in
-    let whole = weighed-begun (s .args .start) (s .args .step) (s .args .samples .now) (s .pre .1) (begin c .begin-at-360 .result) (begin c .begin-at-360 .ensures) in
-    c .mesopic-weighed .ensures ∙ rw (whole YBar, whole VPrime)
+    let is = part (c .before .before) in
+    c .mesopic-weighed .ensures ∙ rw (weighed-begun is YBar, weighed-begun is VPrime)
 
-divisor-is : (c : tie.After-short-times-plus) → short (c .short-times-plus .result) ≡ mesopicDivisor (begin (c .before .before .before) .before .before .args .k) (begin (c .before .before .before) .before .before .args .step)
+divisor-is :
+    (c : tie.After-short-times-plus) →
+    let t = begin (c .before .before .before) .args in short (c .short-times-plus .result) ≡ mesopicDivisor (t .k) (t .step)
 divisor-is c =
-    let s = begin (c .before .before .before) .before .before in
+    let s = begin (c .before .before .before) in
     let few = s .pre .0 in
-    let high = on-grid (s .args .start) (s .args .step) (s .args .samples .now) (s .pre .1) .step-high in
+    let high = step-small (light s) in
     c .short-times-plus .ensures
     ∙ rw (c .before .before .scale .ensures, c .before .joined .ensures)
     (mesopic-divisor-kept (s .args .step * 10 ^ 16) (1000 * s .args .k + 402 * (1000 - s .args .k)) (omega arith) (omega arith))
 
 begin-at-360-requires : tie.Need-begin-at-360-requires
-begin-at-360-requires c κs = let s = c .before in sought (s .args .start) (s .args .step) (s .args .samples .now) (s .pre .1)
+begin-at-360-requires c κs = sought (light (c .before))
 
 mul-mesopic-weighed : tie.Need-mul-mesopic-weighed
-mul-mesopic-weighed c = omega (arith, in-row c)
+mul-mesopic-weighed c = omega (arith, in-row (part c))
 
 sub-mesopic-weighed : tie.Need-sub-mesopic-weighed
-sub-mesopic-weighed c = in-row c
+sub-mesopic-weighed c = in-row (part c)
 
 part-mesopic-weighed-start : tie.Need-part-mesopic-weighed-start
-part-mesopic-weighed-start c = in-row c
+part-mesopic-weighed-start c = in-row (part c)
 
 part-mesopic-weighed-end : tie.Need-part-mesopic-weighed-end
 part-mesopic-weighed-end c = search needs
 
 mesopic-weighed-requires : tie.Need-mesopic-weighed-requires
-mesopic-weighed-requires c κs =
-    let s = c .before .before .before in
-    (s .pre .0, begun (s .args .start) (s .args .step) (s .args .samples .now) (s .pre .1) (c .before .begin-at-360 .result) (c .before .begin-at-360 .ensures))
+mesopic-weighed-requires c κs = (c .before .before .before .pre .0, begun (part (c .before)))
 
 mul-bracket : tie.Need-mul-bracket
 mul-bracket c = search needs
@@ -69,7 +70,7 @@ add-bracket : tie.Need-add-bracket
 add-bracket c = search needs
 
 scale-requires : tie.Need-scale-requires
-scale-requires c κs = let s = begin c .before .before in on-grid (s .args .start) (s .args .step) (s .args .samples .now) (s .pre .1) .step-high
+scale-requires c κs = step-small (light (begin c))
 
 joined-requires : tie.Need-joined-requires
 joined-requires c κs = search needs
@@ -82,9 +83,8 @@ reading-from-requires c κs = search needs
 
 returns : tie.Need-returns
 returns c =
-    let sum = c .before .before .before .before in
-    let t = begin sum .before .before .args in
-    c .reading-from .ensures ∙ rw (sum-is sum, divisor-is (c .before), mul-comm (mesopicWeighed (t .k) (t .start) (t .step) (t .samples .now)) 683000)
+    let divisor = c .before in
+    rw (c .reading-from .ensures, sum-is (divisor .before .before .before), divisor-is divisor, mul-comm)
 
 pub mesopic-of-light-spec : {M : Type 1} → statement M
 mesopic-of-light-spec =

@@ -1,16 +1,17 @@
 -- The chart's point is that of the coordinates.
-use mathlib.Core.Path.{_≡_, _∙_, sym}
-use Rattle.grid.specs.declared.Check.the-variants.{Fine}
-use Rattle.readings.specs.Readings.{colourCheck, chartOf}
-use Rattle.readings.proofs.Small.{colour-fine}
-use Rattle.readings.proofs.LightSums.{total-small}
+use mathlib.Core.Path.{_∙_, sym}
+use Rattle.readings.specs.Readings.{chartOf}
+use Rattle.readings.proofs.Part.{AcceptedColour, light-of, total-small}
 use borrow.Author.Needs.{needs}
 use Rattle.readings.proofs.colour.chart.Statement.{statement}
 use Rattle.readings.proofs.colour.chart.Tie as tie
 
--- all checks are fine in this arm
-fine : (c : tie.After-enum-told) → colourCheck (c .before .before .before .before .args .observer) (c .before .before .before .before .args .start) (c .before .before .before .before .args .step) (c .before .before .before .before .args .samples .now) ≡ Fine
-fine c = sym (c .before .before .check-colour .ensures) ∙ c .enum-told .given .1
+abbrev begin : tie.After-enum-told → tie.Start
+begin c = c .before .before .before .before
+
+colour :
+    (c : tie.After-enum-told) → let t = begin c .args in AcceptedColour (t .observer) (t .start) (t .step) (t .samples .now)
+colour c = record { fine = sym (c .before .before .check-colour .ensures) ∙ c .enum-told .given .1 }
 
 check-colour-requires : tie.Need-check-colour-requires
 check-colour-requires c κs = search needs
@@ -19,14 +20,10 @@ enum-told : tie.Need-enum-told
 enum-told c = search needs
 
 light-sums-requires : tie.Need-light-sums-requires
-light-sums-requires c κs =
-    let t = c .before .before .before .before .args in
-    colour-fine (t .observer) (t .start) (t .step) (t .samples .now) (fine c)
+light-sums-requires c κs = light-of (colour c) .fine
 
 xy-from-requires : tie.Need-xy-from-requires
-xy-from-requires c κs =
-    let t = c .before .before .before .before .before .args in
-    total-small (t .observer) (t .start) (t .step) (t .samples .now) (c .light-sums .result) (c .light-sums .ensures) (fine (c .before))
+xy-from-requires c κs = total-small (light-of (colour (c .before))) (c .light-sums .ensures)
 
 on-chart-requires : tie.Need-on-chart-requires
 on-chart-requires c κs = search needs
@@ -37,8 +34,9 @@ enum-known-check c = search needs
 returns : tie.Need-returns
 unfolding chartOf
 returns c =
-    let sums = c .before .before .light-sums .ensures in
-    rw (c .on-chart .ensures, c .before .xy-from .ensures, sums .x, sums .y, sums .z, fine (c .before .before .before))
+    let sums = c .before .before in
+    let is = sums .light-sums .ensures in
+    rw (c .on-chart .ensures, c .before .xy-from .ensures, is .x, is .y, is .z, colour (sums .before) .fine)
 
 returns-2 : tie.Need-returns-2
 unfolding chartOf

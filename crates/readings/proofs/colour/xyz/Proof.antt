@@ -1,19 +1,18 @@
 -- Each of X, Y, Z is its sum times the efficacy, divided once.
-use mathlib.Core.Path.{_≡_, _∙_, sym}
-use Prim.Native.Nat.{ℕ}
-use native.Mathlib.Nat.{mul-comm}
-use Rattle.grid.specs.declared.Check.the-variants.{Fine}
-use Rattle.grid.proofs.Light.{on-grid}
-use Rattle.curves.specs.Colour.{ofObserver}
-use Rattle.readings.specs.Readings.{colourCheck, xSum, ySum, zSum, xyzOf}
-use Rattle.readings.proofs.Small.{colour-fine}
+use mathlib.Core.Path.{_∙_, sym}
+use Rattle.answers.proofs.Values.{xyz-factor}
+use Rattle.readings.specs.Readings.{xyzOf}
+use Rattle.readings.proofs.Part.{AcceptedColour, light-of, step-small}
 use borrow.Author.Needs.{needs}
 use Rattle.readings.proofs.colour.xyz.Statement.{statement}
 use Rattle.readings.proofs.colour.xyz.Tie as tie
 
--- all checks are fine in this arm
-fine : (c : tie.After-enum-told) → colourCheck (c .before .before .before .before .args .observer) (c .before .before .before .before .args .start) (c .before .before .before .before .args .step) (c .before .before .before .before .args .samples .now) ≡ Fine
-fine c = sym (c .before .before .check-colour .ensures) ∙ c .enum-told .given .1
+abbrev begin : tie.After-enum-told → tie.Start
+begin c = c .before .before .before .before
+
+colour :
+    (c : tie.After-enum-told) → let t = begin c .args in AcceptedColour (t .observer) (t .start) (t .step) (t .samples .now)
+colour c = record { fine = sym (c .before .before .check-colour .ensures) ∙ c .enum-told .given .1 }
 
 check-colour-requires : tie.Need-check-colour-requires
 check-colour-requires c κs = search needs
@@ -22,13 +21,13 @@ enum-told : tie.Need-enum-told
 enum-told c = search needs
 
 light-sums-requires : tie.Need-light-sums-requires
-light-sums-requires c κs = colour-fine (c .before .before .before .before .args .observer) (c .before .before .before .before .args .start) (c .before .before .before .before .args .step) (c .before .before .before .before .args .samples .now) (fine c)
+light-sums-requires c κs = light-of (colour c) .fine
 
 efficacy-requires : tie.Need-efficacy-requires
 efficacy-requires c κs = search needs
 
 scale-requires : tie.Need-scale-requires
-scale-requires c κs = on-grid (c .before .before .before .before .before .before .args .start) (c .before .before .before .before .before .before .args .step) (c .before .before .before .before .before .before .args .samples .now) (colour-fine (c .before .before .before .before .before .before .args .observer) (c .before .before .before .before .before .before .args .start) (c .before .before .before .before .before .before .args .step) (c .before .before .before .before .before .before .args .samples .now) (fine (c .before .before))) .step-high
+scale-requires c κs = step-small (light-of (colour (c .before .before)))
 
 xyz-from-requires : tie.Need-xyz-from-requires
 xyz-from-requires c κs = search needs
@@ -39,20 +38,18 @@ enum-known-check c = search needs
 returns : tie.Need-returns
 unfolding xyzOf
 returns c =
-    let sums = c .before .before .before .light-sums .ensures in
-    let o = c .before .before .before .before .before .before .before .before .args .observer in
-    let e : ℕ = ofObserver o 683 684 in
-    c .xyz-from .ensures
-    ∙ rw (
-      sums .x,
-      sums .y,
-      sums .z,
-      c .before .before .efficacy .ensures,
-      c .before .scale .ensures,
-      mul-comm (xSum (c .before .before .before .before .before .before .before .before .args .observer) (c .before .before .before .before .before .before .before .before .args .start) (c .before .before .before .before .before .before .before .before .args .step) (c .before .before .before .before .before .before .before .before .args .samples .now)) e,
-      mul-comm (ySum (c .before .before .before .before .before .before .before .before .args .observer) (c .before .before .before .before .before .before .before .before .args .start) (c .before .before .before .before .before .before .before .before .args .step) (c .before .before .before .before .before .before .before .before .args .samples .now)) e,
-      mul-comm (zSum (c .before .before .before .before .before .before .before .before .args .observer) (c .before .before .before .before .before .before .before .before .args .start) (c .before .before .before .before .before .before .before .before .args .step) (c .before .before .before .before .before .before .before .before .args .samples .now)) e,
-      fine (c .before .before .before .before),
+    let divisor = c .before in
+    let sums = divisor .before .before in
+    let is = sums .light-sums .ensures in
+    rw (
+      c .xyz-from .ensures,
+      xyz-factor,
+      is .x,
+      is .y,
+      is .z,
+      divisor .before .efficacy .ensures,
+      divisor .scale .ensures,
+      colour (sums .before) .fine,
     )
 
 returns-2 : tie.Need-returns-2
