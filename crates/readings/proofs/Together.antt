@@ -24,25 +24,14 @@ refused : (b : Bool) (w : Xyz) (q r : Refusal) → cond b (XyzAnswer.Value w) (X
 refused true w q r e = absurd (let z : _≡_ {A = ℕ} 0 1 = cc in omega arith)
 refused false w q r e = cc
 
-module _ (x y z n d : ℕ) (xy : XyAnswer) where
+module _ (x y z d : ℕ) where
   -- where X, Y, Z are given, photopic is Y
-  photopic-given : (v : Xyz) → xyzFrom x y z d ≡ XyzAnswer.Value v → readingFrom y d ≡ Reading.Value (v .y)
+  pub photopic-given : (v : Xyz) → xyzFrom x y z d ≡ XyzAnswer.Value v → readingFrom y d ≡ Reading.Value (v .y)
   unfolding xyzFrom readingFrom
   photopic-given v e =
       let w : Xyz = record { x = nearest x d; y = nearest y d; z = nearest z d } in
       let g = given (isFitting (nearest x d)) (isFitting (nearest y d)) (isFitting (nearest z d)) w v (refusal 15 0) e in
       rw (g .0) (ap (λ u. Reading.Value (u .y)) (g .1))
-
-  pub all-given :
-      (v : Xyz) (q : ℕ) → xyzFrom x y z d ≡ XyzAnswer.Value v → readingFrom n d ≡ Reading.Value q →
-      together (readingFrom y d) (readingFrom n d) (xyzFrom x y z d) xy
-      ≡ FiguresAnswer.Value (record { photopic = v .y; scotopic = q; xyz = v; xy = xy })
-  all-given v q e f = rw (photopic-given v e, f, e)
-
-  pub scotopic-refused :
-      (v : Xyz) (r : Refusal) → xyzFrom x y z d ≡ XyzAnswer.Value v → readingFrom n d ≡ Reading.Refused r →
-      together (readingFrom y d) (readingFrom n d) (xyzFrom x y z d) xy ≡ FiguresAnswer.Refused r
-  scotopic-refused v r e f = rw (photopic-given v e, f)
 
   -- X, Y, Z that are refused are OVERRANGE
   overrange : (r : Refusal) → xyzFrom x y z d ≡ XyzAnswer.Refused r → refusal 15 0 ≡ r
@@ -52,10 +41,10 @@ module _ (x y z n d : ℕ) (xy : XyAnswer) where
       (record { x = nearest x d; y = nearest y d; z = nearest z d }) (refusal 15 0) r e
 
   pub xyz-refused :
-      (r : Refusal) → xyzFrom x y z d ≡ XyzAnswer.Refused r →
+      (r : Refusal) (n : ℕ) (xy : XyAnswer) → xyzFrom x y z d ≡ XyzAnswer.Refused r →
       together (readingFrom y d) (readingFrom n d) (xyzFrom x y z d) xy ≡ FiguresAnswer.Refused r
   unfolding readingFrom
-  xyz-refused r e =
+  xyz-refused r n xy e =
       rw e (go (isFitting (nearest y d)) (isFitting (nearest n d)) (overrange r e))
     where
       go :
