@@ -1,4 +1,4 @@
--- Case by case, the fields are what is said of the chart; 0.0 has the bits 0.
+-- In either arm the place is known, and what it says computes to the fields; 0.0 has the bits 0.
 use lib.Ieee.{ofInt, ofBits}
 use borrow.Author.Needs.{needs}
 use Rattle.quailribbon.proofs.flatten.flat_on_chart.Statement.{statement}

@@ -1,4 +1,4 @@
--- Case by case, the fields are what the answer says.
+-- In either arm the answer is known, and what it says computes to the fields.
 use borrow.Author.Needs.{needs}
 use Rattle.quailribbon.proofs.flatten.flat_reading.Statement.{statement}
 use Rattle.quailribbon.proofs.flatten.flat_reading.Tie as tie

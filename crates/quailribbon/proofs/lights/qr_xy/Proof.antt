@@ -1,7 +1,4 @@
--- What the call below answers, made flat.
-use mathlib.Core.Path.{_∙_, ap}
-use Rattle.answers.specs.Said.{saidXy}
-use Rattle.quailribbon.specs.Flat.{flatXy}
+-- readings::colour::xy gives the defined answer, and flat_xy says what it says.
 use borrow.Author.Needs.{needs}
 use Rattle.quailribbon.proofs.lights.qr_xy.Statement.{statement}
 use Rattle.quailribbon.proofs.lights.qr_xy.Tie as tie
@@ -13,7 +10,7 @@ flat-xy-requires : tie.Need-flat-xy-requires
 flat-xy-requires c κs = search needs
 
 returns : tie.Need-returns
-returns c = c .flat-xy .ensures ∙ ap (λ r. flatXy (saidXy r)) (c .before .xy .ensures)
+returns c = rw (c .flat-xy .ensures, c .before .xy .ensures)
 
 pub qr-xy-spec : {M : Type 1} → statement M
 qr-xy-spec = tie.close (tie.spec xy-requires flat-xy-requires returns)

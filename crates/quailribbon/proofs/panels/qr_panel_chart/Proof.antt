@@ -1,7 +1,4 @@
--- What the call below answers, made flat.
-use mathlib.Core.Path.{_∙_, ap}
-use Rattle.answers.specs.Said.{saidChart}
-use Rattle.quailribbon.specs.Flat.{flatChart}
+-- panel::panel_chart gives the defined answer, and flat_chart says what it says.
 use borrow.Author.Needs.{needs}
 use Rattle.quailribbon.proofs.panels.qr_panel_chart.Statement.{statement}
 use Rattle.quailribbon.proofs.panels.qr_panel_chart.Tie as tie
@@ -13,7 +10,7 @@ flat-chart-requires : tie.Need-flat-chart-requires
 flat-chart-requires c κs = search needs
 
 returns : tie.Need-returns
-returns c = c .flat-chart .ensures ∙ ap (λ r. flatChart (saidChart r)) (c .before .panel-chart .ensures)
+returns c = rw (c .flat-chart .ensures, c .before .panel-chart .ensures)
 
 pub qr-panel-chart-spec : {M : Type 1} → statement M
 qr-panel-chart-spec = tie.close (tie.spec panel-chart-requires flat-chart-requires returns)

@@ -1,7 +1,4 @@
--- What the call below answers, made flat.
-use mathlib.Core.Path.{_∙_, ap}
-use Rattle.panel.specs.Figures.{saidPanelFigures}
-use Rattle.quailribbon.specs.Flat.{flatPanelFigures}
+-- panel::figures::panel_figures gives the defined answer, and flat_panel_figures says what it says.
 use borrow.Author.Needs.{needs}
 use Rattle.quailribbon.proofs.panels.qr_panel_figures.Statement.{statement}
 use Rattle.quailribbon.proofs.panels.qr_panel_figures.Tie as tie
@@ -13,7 +10,7 @@ flat-panel-figures-requires : tie.Need-flat-panel-figures-requires
 flat-panel-figures-requires c κs = search needs
 
 returns : tie.Need-returns
-returns c = c .flat-panel-figures .ensures ∙ ap (λ r. flatPanelFigures (saidPanelFigures r)) (c .before .panel-figures .ensures)
+returns c = rw (c .flat-panel-figures .ensures, c .before .panel-figures .ensures)
 
 pub qr-panel-figures-spec : {M : Type 1} → statement M
 qr-panel-figures-spec = tie.close (tie.spec panel-figures-requires flat-panel-figures-requires returns)

@@ -1,7 +1,4 @@
--- What the call below answers, made flat.
-use mathlib.Core.Path.{_∙_, ap}
-use Rattle.record.specs.Said.{saidRead}
-use Rattle.quailribbon.specs.Records.{flatRecord}
+-- record::read_record gives the defined answer, and flat_record says what it says.
 use borrow.Author.Needs.{needs}
 use Rattle.quailribbon.proofs.records.qr_read_record.Statement.{statement}
 use Rattle.quailribbon.proofs.records.qr_read_record.Tie as tie
@@ -16,10 +13,7 @@ same-length : tie.Need-same-length
 same-length c = search needs
 
 returns : tie.Need-returns
-returns c = (
-  c .flat-record .ensures ∙ ap (λ r. flatRecord (saidRead r)) (c .before .before .before .read-record .ensures .0),
-  c .before .before .before .read-record .ensures .1,
-)
+returns c = let below = c .before .before .before .read-record .ensures in (rw (c .flat-record .ensures, below .0), below .1)
 
 pub qr-read-record-spec : {M : Type 1} → statement M
 qr-read-record-spec =

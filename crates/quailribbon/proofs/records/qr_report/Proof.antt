@@ -1,7 +1,4 @@
--- What the call below answers, made flat.
-use mathlib.Core.Path.{_∙_, ap}
-use Rattle.page.specs.Said.{saidReported}
-use Rattle.quailribbon.specs.Records.{flatWritten}
+-- page::write_report gives the defined answer, and flat_reported says what it says.
 use borrow.Author.Needs.{needs}
 use Rattle.quailribbon.proofs.records.qr_report.Statement.{statement}
 use Rattle.quailribbon.proofs.records.qr_report.Tie as tie
@@ -16,10 +13,7 @@ same-length : tie.Need-same-length
 same-length c = search needs
 
 returns : tie.Need-returns
-returns c = (
-  c .flat-reported .ensures ∙ ap (λ r. flatWritten (saidReported r)) (c .before .before .before .write-report .ensures .0),
-  c .before .before .before .write-report .ensures .1,
-)
+returns c = let below = c .before .before .before .write-report .ensures in (rw (c .flat-reported .ensures, below .0), below .1)
 
 pub qr-report-spec : {M : Type 1} → statement M
 qr-report-spec =

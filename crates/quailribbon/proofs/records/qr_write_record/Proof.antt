@@ -1,7 +1,4 @@
--- What the call below answers, made flat.
-use mathlib.Core.Path.{_∙_, ap}
-use Rattle.record.specs.Said.{saidWritten}
-use Rattle.quailribbon.specs.Records.{flatWritten}
+-- record::write_record gives the defined answer, and flat_written says what it says.
 use borrow.Author.Needs.{needs}
 use Rattle.quailribbon.proofs.records.qr_write_record.Statement.{statement}
 use Rattle.quailribbon.proofs.records.qr_write_record.Tie as tie
@@ -16,10 +13,7 @@ same-length : tie.Need-same-length
 same-length c = search needs
 
 returns : tie.Need-returns
-returns c = (
-  c .flat-written .ensures ∙ ap (λ r. flatWritten (saidWritten r)) (c .before .before .before .write-record .ensures .0),
-  c .before .before .before .write-record .ensures .1,
-)
+returns c = let below = c .before .before .before .write-record .ensures in (rw (c .flat-written .ensures, below .0), below .1)
 
 pub qr-write-record-spec : {M : Type 1} → statement M
 qr-write-record-spec =
