@@ -21,13 +21,18 @@ use Rattle.grid.proofs.Light.{grid-fine, on-grid}
 use Rattle.answers.specs.Said.{saidReading, saidXyz, saidXy}
 use Rattle.curves.specs.Colour.{ofObserver, colourOf}
 use Rattle.answers.proofs.Mixed.{reading-unit, reading-order, xyz-unit, xyz-order, xy-between, xy-one-dark}
-use Rattle.readings.specs.Readings.{weighed, illuminanceOf, mesopicOf, mesopicSum, mesopicDivisor, xSum, ySum, zSum, xyzOf, xyOf}
+use Rattle.readings.specs.Readings.{weighed, illuminanceOf, mesopicOf, mesopicSum, mesopicDivisor, xyzOf, xyOf}
 use Rattle.readings.specs.Promises.{Mixable, OneUnit, InOrder, BothLit, OneDark}
 
-pub accepted : (a s : ℕ) (xs ys : List ℕ) → Mixable a s xs ys → lightCheck a s (mix xs ys) ≡ Fine
+pub mixture-accepted : (a s : ℕ) (xs ys : List ℕ) → Mixable a s xs ys → lightCheck a s (mix xs ys) ≡ Fine
 unfolding lightCheck
-accepted a s xs ys m =
+mixture-accepted a s xs ys m =
     rw (length-mix (length xs) xs ys refl (sym (m .one-grid)), grid-fine a s xs (m .first)) (within-fine 4 1000000 0 (mix xs ys) (m .within))
+
+-- a test that cannot fail holds
+held : (b : Bool) → (b ≡ false → ⊥) → b ≡ true
+held true h = refl
+held false h = absurd (h refl)
 
 -- mixed the other way round, the samples are the same
 swapped : (a s : ℕ) (xs ys : List ℕ) → Mixable a s xs ys → Mixable a s ys xs
@@ -51,7 +56,7 @@ module _ (c : Curve) (efficacy : ℕ) where
   pub illuminance-unit : OneUnit (λ a s xs. saidReading (illuminanceOf c efficacy a s xs))
   unfolding illuminanceOf
   illuminance-unit a s xs ys m e f g i =
-      let mixed = accepted a s xs ys m in
+      let mixed = mixture-accepted a s xs ys m in
       rw (m .first, m .second, mixed)
       (reading-unit (length xs) (s * 10 ^ 16) (scale-pos a s xs (m .first)) xs ys refl (sym (m .one-grid)) (λ zs. efficacy * weighed c a s zs)
       (efficacy-linear (length xs) a s) (rw (m .first) at e) (rw (m .second) at f) (rw mixed at g) i)
@@ -80,16 +85,12 @@ module _ (k : ℕ) where
   -- a mesopic reading that is given has its setting in range
   setting : (a s : ℕ) (xs : List ℕ) → saidReading (mesopicOf k a s xs) .number ≡ 0 → leb k 1000 ≡ true
   unfolding mesopicOf
-  setting a s xs e = go (leb k 1000) refl
-    where
-      go : (b : Bool) → leb k 1000 ≡ b → leb k 1000 ≡ true
-      go true p = p
-      go false p = absurd (let h = rw p at e in omega arith)
+  setting a s xs e = held (leb k 1000) (λ p. let h = rw p at e in omega arith)
 
   pub mesopic-unit : OneUnit (λ a s xs. saidReading (mesopicOf k a s xs))
   unfolding mesopicOf
   mesopic-unit a s xs ys m e f g i =
-      let mixed = accepted a s xs ys m in
+      let mixed = mixture-accepted a s xs ys m in
       let t = setting a s xs e in
       rw (t, m .first, m .second, mixed)
       (reading-unit (length xs) (mesopicDivisor k s) (divisor-pos a s xs (m .first) t) xs ys refl (sym (m .one-grid))
@@ -104,44 +105,26 @@ module _ (k : ℕ) where
       (mesopic-linear (length xs) a s) b (rw (t, p) at e) (rw (t, q) at f) i)
 
 module _ (o : ℕ) where
-  x-linear : (n a s : ℕ) → Linear n (λ xs. xSum o a s xs)
-  x-linear n a s = curve-linear n (colourOf o .x) a s
-
-  y-linear : (n a s : ℕ) → Linear n (λ xs. ySum o a s xs)
-  y-linear n a s = curve-linear n (colourOf o .y) a s
-
-  z-linear : (n a s : ℕ) → Linear n (λ xs. zSum o a s xs)
-  z-linear n a s = curve-linear n (colourOf o .z) a s
-
   -- colours that are given have an observer
   xyz-observer : (a s : ℕ) (xs : List ℕ) → saidXyz (xyzOf o a s xs) .number ≡ 0 → isObserver o ≡ true
   unfolding xyzOf
-  xyz-observer a s xs e = go (isObserver o) refl
-    where
-      go : (b : Bool) → isObserver o ≡ b → isObserver o ≡ true
-      go true p = p
-      go false p = absurd (let h = rw p at e in omega arith)
+  xyz-observer a s xs e = held (isObserver o) (λ p. let h = rw p at e in omega arith)
 
   -- and so have coordinates that are given, or dark
   xy-observer : (a s : ℕ) (xs : List ℕ) (n : ℕ) → saidXy (xyOf o a s xs) .number ≡ n → (6 ≡ n → ⊥) → isObserver o ≡ true
   unfolding xyOf
-  xy-observer a s xs n e other = go (isObserver o) refl
-    where
-      go : (b : Bool) → isObserver o ≡ b → isObserver o ≡ true
-      go true p = p
-      go false p = absurd (other (rw p at e))
+  xy-observer a s xs n e other = held (isObserver o) (λ p. other (rw p at e))
 
   pub xyz-mixed : OneUnit (λ a s xs. saidXyz (xyzOf o a s xs))
   unfolding xyzOf
   xyz-mixed a s xs ys m e f g i =
-      let mixed = accepted a s xs ys m in
+      let mixed = mixture-accepted a s xs ys m in
       let t = xyz-observer a s xs e in
       let n = length xs in
       let k : ℕ = ofObserver o 683 684 in
       rw (t, m .first, m .second, mixed)
-      (xyz-unit n (s * 10 ^ 16) (scale-pos a s xs (m .first)) xs ys refl (sym (m .one-grid)) (λ zs. k * xSum o a s zs)
-      (λ zs. k * ySum o a s zs) (λ zs. k * zSum o a s zs) (linear-times n k (λ zs. xSum o a s zs) (x-linear n a s))
-      (linear-times n k (λ zs. ySum o a s zs) (y-linear n a s)) (linear-times n k (λ zs. zSum o a s zs) (z-linear n a s))
+      (xyz-unit n (s * 10 ^ 16) (scale-pos a s xs (m .first)) xs ys refl (sym (m .one-grid)) _ _ _ (efficacy-linear (colourOf o .x) k n a s)
+      (efficacy-linear (colourOf o .y) k n a s) (efficacy-linear (colourOf o .z) k n a s)
       (rw (t, m .first) at e) (rw (t, m .second) at f) (rw (t, mixed) at g) i)
 
   pub xyz-ordered : InOrder (λ a s xs. saidXyz (xyzOf o a s xs))
@@ -151,18 +134,16 @@ module _ (o : ℕ) where
       let n = length xs in
       let k : ℕ = ofObserver o 683 684 in
       rw (t, p, q)
-      (xyz-order n (s * 10 ^ 16) (scale-pos a s xs p) xs ys refl (sym l) (λ zs. k * xSum o a s zs) (λ zs. k * ySum o a s zs)
-      (λ zs. k * zSum o a s zs) (linear-times n k (λ zs. xSum o a s zs) (x-linear n a s))
-      (linear-times n k (λ zs. ySum o a s zs) (y-linear n a s)) (linear-times n k (λ zs. zSum o a s zs) (z-linear n a s)) b
-      (rw (t, p) at e) (rw (t, q) at f) i)
+      (xyz-order n (s * 10 ^ 16) (scale-pos a s xs p) xs ys refl (sym l) _ _ _ (efficacy-linear (colourOf o .x) k n a s)
+      (efficacy-linear (colourOf o .y) k n a s) (efficacy-linear (colourOf o .z) k n a s) b (rw (t, p) at e) (rw (t, q) at f) i)
 
   pub between : BothLit (λ a s xs. saidXy (xyOf o a s xs))
   unfolding xyOf
   between a s xs ys m e f =
       let n = length xs in
       let t = xy-observer a s xs 0 e (λ h. omega arith) in
-      rw (t, m .first, m .second, accepted a s xs ys m)
-      (xy-between n (λ zs. xSum o a s zs) (λ zs. ySum o a s zs) (λ zs. zSum o a s zs) (x-linear n a s) (y-linear n a s) (z-linear n a s)
+      rw (t, m .first, m .second, mixture-accepted a s xs ys m)
+      (xy-between n _ _ _ (curve-linear n (colourOf o .x) a s) (curve-linear n (colourOf o .y) a s) (curve-linear n (colourOf o .z) a s)
       xs ys refl (sym (m .one-grid)) (rw (t, m .first) at e) (rw (t, m .second) at f))
 
   pub one-dark : OneDark (λ a s xs. saidXy (xyOf o a s xs))
@@ -170,6 +151,6 @@ module _ (o : ℕ) where
   one-dark a s xs ys m e f =
       let n = length xs in
       let t = xy-observer a s xs 9 e (λ h. omega arith) in
-      rw (t, m .second, accepted a s xs ys m, accepted a s ys xs (swapped a s xs ys m))
-      (xy-one-dark n (λ zs. xSum o a s zs) (λ zs. ySum o a s zs) (λ zs. zSum o a s zs) (x-linear n a s) (y-linear n a s) (z-linear n a s)
+      rw (t, m .second, mixture-accepted a s xs ys m, mixture-accepted a s ys xs (swapped a s xs ys m))
+      (xy-one-dark n _ _ _ (curve-linear n (colourOf o .x) a s) (curve-linear n (colourOf o .y) a s) (curve-linear n (colourOf o .z) a s)
       xs ys refl (sym (m .one-grid)) (rw (t, m .first) at e))

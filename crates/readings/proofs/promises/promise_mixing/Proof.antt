@@ -1,13 +1,13 @@
 -- Each sum is linear in the samples, so the laws of mixed light hold of each reading.
 use Rattle.tables.specs.declared.Curve.the-variants.{YBar, VPrime, YBar10}
-use Rattle.readings.proofs.Instances.{accepted, illuminance-unit, mesopic-unit, xyz-mixed, between, one-dark}
+use Rattle.readings.proofs.Instances.{mixture-accepted, illuminance-unit, mesopic-unit, xyz-mixed, between, one-dark}
 use Rattle.readings.proofs.promises.promise_mixing.Statement.{statement}
 use Rattle.readings.proofs.promises.promise_mixing.Tie as tie
 
 returns : tie.Need-returns
 returns c =
     record {
-      accepted = accepted;
+      accepted = mixture-accepted;
       photopic = illuminance-unit YBar 683;
       scotopic = illuminance-unit VPrime 1700;
       photopic-10 = illuminance-unit YBar10 684;
