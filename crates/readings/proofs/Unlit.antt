@@ -40,13 +40,13 @@ zeros-accepted a s n fine =
 
 pub zeros : (c : Curve) (a s n : ℕ) → Unlit c a s (replicate n 0)
 unfolding T endRule lineAt
-zeros c a s n k = rw (dark (isMeasured a s (length {A = ℕ} (replicate n 0)) (360 + k)) (360 + k - a)) (mul-zero (weightOf c k))
+zeros c a s n k = rw (no-light (isMeasured a s (length {A = ℕ} (replicate n 0)) (360 + k)) (360 + k - a)) (mul-zero (weightOf c k))
   where
-    dark :
+    no-light :
         (b : Bool) (e : ℕ) →
         cond b ((s - e % s) * getD (replicate n 0) (e / s) 0 + e % s * getD (replicate n 0) (e / s + 1) 0) 0 ≡ 0
-    dark true e = rw (getD-zeros n (e / s), getD-zeros n (e / s + 1)) (simp (mul-zero, add-zero))
-    dark false e = refl
+    no-light true e = rw (getD-zeros n (e / s), getD-zeros n (e / s + 1)) (simp (mul-zero, add-zero))
+    no-light false e = refl
 
 module _ (a s : ℕ) (xs : List ℕ) (fine : lightCheck a s xs ≡ Fine) where
   no-sum : (c : Curve) → Unlit c a s xs → weighed c a s xs ≡ 0
@@ -63,26 +63,20 @@ module _ (a s : ℕ) (xs : List ℕ) (fine : lightCheck a s xs ≡ Fine) where
       rw (le-leb k 1000 h, fine, no-sum YBar day, no-sum VPrime night, mul-zero k, mul-zero (1000 - k), nearest-none)
 
   module _ (o : ℕ) (e : isObserver o ≡ true) (unlit : Colourless o a s xs) where
-    no-x : weighed (colourOf o .x) a s xs ≡ 0
-    no-x = no-sum (colourOf o .x) (unlit .0)
-
-    no-y : weighed (colourOf o .y) a s xs ≡ 0
-    no-y = no-sum (colourOf o .y) (unlit .1)
-
-    no-z : weighed (colourOf o .z) a s xs ≡ 0
-    no-z = no-sum (colourOf o .z) (unlit .2)
+    no-sums : (weighed (colourOf o .x) a s xs ≡ 0) × (weighed (colourOf o .y) a s xs ≡ 0) × (weighed (colourOf o .z) a s xs ≡ 0)
+    no-sums = (no-sum (colourOf o .x) (unlit .0), no-sum (colourOf o .y) (unlit .1), no-sum (colourOf o .z) (unlit .2))
 
     pub no-xyz : xyzOf o a s xs ≡ XyzAnswer.Value (record { x = 0; y = 0; z = 0 })
     unfolding xyzOf xyzFrom
-    no-xyz = rw (e, fine, no-x, no-y, no-z, mul-zero (ofObserver o 683 684), nearest-none)
+    no-xyz = rw (e, fine, no-sums .0, no-sums .1, no-sums .2, mul-zero (ofObserver o 683 684), nearest-none)
 
     pub no-xy : xyOf o a s xs ≡ XyAnswer.Refused (refusal 9 0)
     unfolding xyOf xyFrom
-    no-xy = rw (e, fine, no-x, no-y, no-z)
+    no-xy = rw (e, fine, no-sums .0, no-sums .1, no-sums .2)
 
     pub no-point : chartOf o a s xs ≡ ChartAnswer.Given OnChart.Dark
     unfolding chartOf xyFrom onChart
-    no-point = rw (e, fine, no-x, no-y, no-z)
+    no-point = rw (e, fine, no-sums .0, no-sums .1, no-sums .2)
 
   -- what the report shows of no light
   pub no-figures :
