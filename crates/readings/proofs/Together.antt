@@ -14,15 +14,15 @@ use Rattle.answers.specs.Worked.{isFitting, readingFrom, xyzFrom}
 use Rattle.readings.specs.declared.figures.FiguresAnswer.{FiguresAnswer}
 use Rattle.readings.specs.Readings.{together}
 
-given : (a b c : Bool) (w v : Xyz) (r : Refusal) → cond (a && b && c) (XyzAnswer.Value w) (XyzAnswer.Refused r) ≡ XyzAnswer.Value v → (b ≡ true) × (w ≡ v)
-given true true true w v r e = (refl, cc)
-given true true false w v r e = absurd (let z : _≡_ {A = ℕ} 0 1 = cc in omega arith)
-given true false c w v r e = absurd (let z : _≡_ {A = ℕ} 0 1 = cc in omega arith)
-given false b c w v r e = absurd (let z : _≡_ {A = ℕ} 0 1 = cc in omega arith)
+value-of : (a b c : Bool) (w v : Xyz) (r : Refusal) → cond (a && b && c) (XyzAnswer.Value w) (XyzAnswer.Refused r) ≡ XyzAnswer.Value v → (b ≡ true) × (w ≡ v)
+value-of true true true w v r e = (refl, cc)
+value-of true true false w v r e = absurd (let z : _≡_ {A = ℕ} 0 1 = cc in omega arith)
+value-of true false c w v r e = absurd (let z : _≡_ {A = ℕ} 0 1 = cc in omega arith)
+value-of false b c w v r e = absurd (let z : _≡_ {A = ℕ} 0 1 = cc in omega arith)
 
-refused : (b : Bool) (w : Xyz) (q r : Refusal) → cond b (XyzAnswer.Value w) (XyzAnswer.Refused q) ≡ XyzAnswer.Refused r → q ≡ r
-refused true w q r e = absurd (let z : _≡_ {A = ℕ} 0 1 = cc in omega arith)
-refused false w q r e = cc
+refusal-of : (b : Bool) (w : Xyz) (q r : Refusal) → cond b (XyzAnswer.Value w) (XyzAnswer.Refused q) ≡ XyzAnswer.Refused r → q ≡ r
+refusal-of true w q r e = absurd (let z : _≡_ {A = ℕ} 0 1 = cc in omega arith)
+refusal-of false w q r e = cc
 
 module _ (x y z d : ℕ) where
   -- where X, Y, Z are given, photopic is Y
@@ -30,14 +30,14 @@ module _ (x y z d : ℕ) where
   unfolding xyzFrom readingFrom
   photopic-given v e =
       let w : Xyz = record { x = nearest x d; y = nearest y d; z = nearest z d } in
-      let g = given (isFitting (nearest x d)) (isFitting (nearest y d)) (isFitting (nearest z d)) w v (refusal 15 0) e in
+      let g = value-of (isFitting (nearest x d)) (isFitting (nearest y d)) (isFitting (nearest z d)) w v (refusal 15 0) e in
       rw (g .0) (ap (λ u. Reading.Value (u .y)) (g .1))
 
   -- X, Y, Z that are refused are OVERRANGE
   overrange : (r : Refusal) → xyzFrom x y z d ≡ XyzAnswer.Refused r → refusal 15 0 ≡ r
   unfolding xyzFrom
   overrange r e =
-      refused (isFitting (nearest x d) && isFitting (nearest y d) && isFitting (nearest z d))
+      refusal-of (isFitting (nearest x d) && isFitting (nearest y d) && isFitting (nearest z d))
       (record { x = nearest x d; y = nearest y d; z = nearest z d }) (refusal 15 0) r e
 
   pub xyz-refused :

@@ -1,4 +1,4 @@
--- 683, or 684 for observer 10.
+-- The test for observer 10 is that of ofObserver.
 use borrow.Author.Tests.{ne-eqb}
 use Rattle.readings.proofs.colour.efficacy.Statement.{statement}
 use Rattle.readings.proofs.colour.efficacy.Tie as tie
