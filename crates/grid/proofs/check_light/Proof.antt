@@ -12,8 +12,8 @@ abbrev begin : tie.After-enum-told → tie.Start
 begin c = c .before .before .before .before
 
 -- the grid is accepted in this arm
-on-grid : (c : tie.After-enum-told) → gridCheck (begin c .args .start) (begin c .args .step) (length (begin c .args .samples .now)) ≡ Fine
-on-grid c = sym (c .before .before .check-grid .ensures) ∙ c .enum-told .given .1
+grid-fine : (c : tie.After-enum-told) → gridCheck (begin c .args .start) (begin c .args .step) (length (begin c .args .samples .now)) ≡ Fine
+grid-fine c = sym (c .before .before .check-grid .ensures) ∙ c .enum-told .given .1
 
 check-grid-requires : tie.Need-check-grid-requires
 check-grid-requires c κs = search needs
@@ -23,14 +23,14 @@ enum-told c = search needs
 
 -- a grid that is accepted has no more than 531 samples
 check-samples-requires : tie.Need-check-samples-requires
-check-samples-requires c κs = let t = begin c .args in accepted (t .start) (t .step) (length (t .samples .now)) (on-grid c) .many
+check-samples-requires c κs = let t = begin c .args in accepted (t .start) (t .step) (length (t .samples .now)) (grid-fine c) .many
 
 enum-known-on-grid : tie.Need-enum-known-on-grid
 enum-known-on-grid c = search needs
 
 returns : tie.Need-returns
 unfolding lightCheck
-returns c = rw (on-grid (c .before)) (c .check-samples .ensures)
+returns c = rw (grid-fine (c .before)) (c .check-samples .ensures)
 
 returns-2 : tie.Need-returns-2
 unfolding lightCheck

@@ -13,8 +13,8 @@ use Rattle.grid.proofs.is_count.Tie as tie
 abbrev begin : tie.Else2 → tie.Start
 begin c = c .before .before
 
-small : (c : tie.Else2) → (begin c .args .step * (begin c .args .count - 1) ≤ 5300) × (begin c .args .start ≤ 380)
-small c =
+last-small : (c : tie.Else2) → (begin c .args .step * (begin c .args .count - 1) ≤ 5300) × (begin c .args .start ≤ 380)
+last-small c =
     let t = begin c .args in
     let few : t .count - 1 ≤ 530 = omega arith in
     (mul-le-mul (step-range (t .step) (begin c .pre .0) .1) few, leb-true (t .start) 380 (both (leb 300 (t .start)) (leb (t .start) 380) (begin c .pre .1) .1))
@@ -40,10 +40,10 @@ sub-last : tie.Need-sub-last
 sub-last c = search needs
 
 mul-last : tie.Need-mul-last
-mul-last c = let h = small c in omega arith
+mul-last c = let h = last-small c in omega arith
 
 add-last : tie.Need-add-last
-add-last c = let h = small c in omega arith
+add-last c = let h = last-small c in omega arith
 
 returns-3 : tie.Need-returns-3
 returns-3 c =
