@@ -7,8 +7,8 @@ use borrow.Author.Tests.{le-leb, lt-leb}
 use Rattle.answers.specs.Worked.{isFitting}
 
 module _ (m q : ℕ) (e : q ≡ min m (2 ^ 32)) where
-  pub fits : q < 2 ^ 32 → (isFitting m ≡ true) × (m ≡ q)
-  fits h = (le-leb m 4294967295 (omega arith), omega arith)
+  pub reading-fits : q < 2 ^ 32 → (isFitting m ≡ true) × (m ≡ q)
+  reading-fits h = (le-leb m 4294967295 (omega arith), omega arith)
 
-  pub over : 2 ^ 32 ≤ q → isFitting m ≡ false
-  over h = lt-leb m 4294967295 (omega arith)
+  pub reading-over : 2 ^ 32 ≤ q → isFitting m ≡ false
+  reading-over h = lt-leb m 4294967295 (omega arith)

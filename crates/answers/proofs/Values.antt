@@ -28,6 +28,10 @@ reading-values n d e = go (isFitting (nearest n d)) e
     go true e = refl
     go false e = absurd (omega arith)
 
+-- a factor may stand on either side
+pub reading-factor : (n f d : ℕ) → readingFrom (n * f) d ≡ readingFrom (f * n) d
+reading-factor n f d = rw (mul-comm n f)
+
 module _ (x y z d : ℕ) where
   abbrev three : Xyz
   three = record { x = nearest x d; y = nearest y d; z = nearest z d }
@@ -51,7 +55,7 @@ module _ (x y z d : ℕ) where
   xyz-given p q r =
       rw (le-leb (nearest x d) 4294967295 p, le-leb (nearest y d) 4294967295 q, le-leb (nearest z d) 4294967295 r)
 
-  -- a factor of all three may stand on either side
+  -- and so may a factor of all three
   pub xyz-factor : (f : ℕ) → xyzFrom (x * f) (y * f) (z * f) d ≡ xyzFrom (f * x) (f * y) (f * z) d
   xyz-factor f = rw (mul-comm x f, mul-comm y f, mul-comm z f)
 

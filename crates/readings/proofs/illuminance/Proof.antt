@@ -1,7 +1,7 @@
 -- The sum over the part is an accepted light's, and is divided once.
 use mathlib.Core.Path.{_∙_, sym}
-use native.Mathlib.Nat.{mul-comm}
 use native.Mathlib.Omega.{arith}
+use Rattle.answers.proofs.Values.{reading-factor}
 use Rattle.readings.specs.Readings.{illuminanceOf}
 use Rattle.readings.proofs.Part.{AcceptedLight, sought, step-small, BegunLight, in-row, begun, weighed-begun}
 use borrow.Author.Needs.{needs}
@@ -56,7 +56,7 @@ unfolding illuminanceOf
 returns c =
     let sum = c .before .before in
     let is = part (sum .before .before) in
-    rw (c .reading-from .ensures, sum .weighed .ensures, weighed-begun is, c .before .scale .ensures, mul-comm, is .light .fine)
+    c .reading-from .ensures ∙ reading-factor _ _ _ ∙ rw (sum .weighed .ensures, weighed-begun is, c .before .scale .ensures, is .light .fine)
 
 returns-2 : tie.Need-returns-2
 unfolding illuminanceOf

@@ -1,10 +1,10 @@
 -- The sum over the part is the light's, and the divisor passes no 96 bits.
 use mathlib.Core.Path.{_≡_, _∙_}
 use Prim.Native.Nat.{_+_, _*_, _-_, _^_}
-use native.Mathlib.Nat.{mul-comm}
 use native.Mathlib.Omega.{arith}
 use Rattle.exact.specs.Value.{short}
 use Rattle.tables.specs.declared.Curve.the-variants.{YBar, VPrime}
+use Rattle.answers.proofs.Values.{reading-factor}
 use Rattle.readings.specs.Readings.{mesopicWeighed, mesopicDivisor}
 use Rattle.readings.proofs.Small.{mesopic-divisor-kept}
 use Rattle.readings.proofs.Part.{AcceptedLight, sought, step-small, BegunLight, in-row, begun, weighed-begun}
@@ -84,7 +84,7 @@ reading-from-requires c κs = search needs
 returns : tie.Need-returns
 returns c =
     let divisor = c .before in
-    rw (c .reading-from .ensures, sum-is (divisor .before .before .before), divisor-is divisor, mul-comm)
+    c .reading-from .ensures ∙ reading-factor _ _ _ ∙ rw (sum-is (divisor .before .before .before), divisor-is divisor)
 
 pub mesopic-of-light-spec : {M : Type 1} → statement M
 mesopic-of-light-spec =

@@ -1,10 +1,9 @@
 -- Photopic is Y, so three quotients and the scotopic one make the four answers.
 use mathlib.Core.Path.{_≡_, _∙_, sym}
 use Prim.Native.Nat.{_*_}
-use native.Mathlib.Nat.{mul-comm}
 use Rattle.exact.specs.Value.{short}
 use Rattle.answers.specs.Worked.{readingFrom, xyzFrom}
-use Rattle.answers.proofs.Values.{xyz-factor}
+use Rattle.answers.proofs.Values.{reading-factor, xyz-factor}
 use Rattle.readings.proofs.Together.{photopic-given, xyz-refused}
 use borrow.Author.Needs.{needs}
 use Rattle.readings.proofs.figures.figures_from.Statement.{statement}
@@ -23,7 +22,7 @@ xyz-worked c = sym (c .before .xyz-from .ensures ∙ xyz-factor _ _ _ _ 683)
 scotopic-worked :
     (c : tie.After-reading-from) →
     let t = begin c .args in readingFrom (1700 * short (t .sums .night)) (short (t .divisor)) ≡ c .reading-from .result
-scotopic-worked c = sym (c .reading-from .ensures ∙ rw mul-comm)
+scotopic-worked c = sym (c .reading-from .ensures ∙ reading-factor _ _ _)
 
 xyz-from-requires : tie.Need-xyz-from-requires
 xyz-from-requires c κs = search needs
