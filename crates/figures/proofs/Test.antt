@@ -55,12 +55,12 @@ no-floats [] [] s t = refl
 no-floats [] (y ∷ ys) s t = absurd t
 no-floats (x ∷ xs) ys s t = absurd s
 
-same : Said → Said → Bool
-same a b =
+isSame : Said → Said → Bool
+isSame a b =
     eqb (a .number) (b .number) && (eqb (a .place) (b .place) && (sameNumbers (a .values) (b .values) && (noFloats (a .floats) && noFloats (b .floats))))
 
-same-said : (a b : Said) → T (same a b) → a ≡ b
-unfolding same
+same-said : (a b : Said) → T (isSame a b) → a ≡ b
+unfolding isSame
 same-said a b t =
     let n = eqb (a .number) (b .number) in
     let p = eqb (a .place) (b .place) in
@@ -78,18 +78,18 @@ same-said a b t =
 
 pub test : List Row → Bool
 test [] = true
-test (r ∷ rs) = same (answerOf (r .asked)) (r .answer) && test rs
+test (r ∷ rs) = isSame (answerOf (r .asked)) (r .answer) && test rs
 
 -- where the test passes, each row is given as it says
 pub holds : (rs : List Row) → T (test rs) → Holds rs
 unfolding test
 holds [] t = tt
 holds (r ∷ rs) t = (
-  same-said (answerOf (r .asked)) (r .answer) (both-left (same (answerOf (r .asked)) (r .answer)) (test rs) t),
-  holds rs (both-right (same (answerOf (r .asked)) (r .answer)) (test rs) t),
+  same-said (answerOf (r .asked)) (r .answer) (both-left (isSame (answerOf (r .asked)) (r .answer)) (test rs) t),
+  holds rs (both-right (isSame (answerOf (r .asked)) (r .answer)) (test rs) t),
 )
 
 -- the test, computed over the whole table
 pub passes : T (test rows)
-unfolding test same sameNumbers noFloats rows answerOf panelXyzOf panelXyOf panelCheck surfaceCheck whiteSum illuminanceOf mesopicOf xyzOf xyOf readingFrom xyzFrom xyFrom lightCheck gridCheck limitCheck W weighted total T′ lineAt endRule table powers xBar yBar zBar xBar10 yBar10 zBar10 vPrime illuminantA illuminantD65 nearest mix
+unfolding test isSame sameNumbers noFloats rows answerOf panelXyzOf panelXyOf panelCheck surfaceCheck whiteSum illuminanceOf mesopicOf xyzOf xyOf readingFrom xyzFrom xyFrom lightCheck gridCheck limitCheck W weighted total T′ lineAt endRule table powers xBar yBar zBar xBar10 yBar10 zBar10 vPrime illuminantA illuminantD65 nearest mix
 passes = tt
