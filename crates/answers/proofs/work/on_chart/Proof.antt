@@ -1,4 +1,4 @@
--- The point of x and y where they are given; else dark.
+-- The two arms are those of onChart.
 use Rattle.answers.specs.Worked.{onChart}
 use borrow.Author.Needs.{needs}
 use Rattle.answers.proofs.work.on_chart.Statement.{statement}
