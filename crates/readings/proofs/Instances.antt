@@ -1,6 +1,6 @@
 -- The promises of mixing and of order at each reading: instances of the laws, by the linearity of W.
 use mathlib.Core.Path.{_≡_, refl, _∙_, sym}
-use mathlib.Core.Bool.{Bool, true, false}
+use mathlib.Core.Bool.{true, not-eq-not}
 use mathlib.Core.List.{List}
 use Prim.Native.Nat.{ℕ, _+_, _*_, _-_, _^_, _≤_, _<_}
 use native.Mathlib.Nat.{mul-pos, add-comm}
@@ -28,11 +28,6 @@ pub mixture-accepted : (a s : ℕ) (xs ys : List ℕ) → Mixable a s xs ys → 
 unfolding lightCheck
 mixture-accepted a s xs ys m =
     rw (length-mix (length xs) xs ys refl (sym (m .one-grid)), grid-fine a s xs (m .first)) (within-fine 4 1000000 0 (mix xs ys) (m .within))
-
--- a test that cannot fail holds
-held : (b : Bool) → (b ≡ false → ⊥) → b ≡ true
-held true h = refl
-held false h = absurd (h refl)
 
 -- mixed the other way round, the samples are the same
 swapped : (a s : ℕ) (xs ys : List ℕ) → Mixable a s xs ys → Mixable a s ys xs
@@ -85,7 +80,7 @@ module _ (k : ℕ) where
   -- a mesopic reading that is given has its setting in range
   setting : (a s : ℕ) (xs : List ℕ) → saidReading (mesopicOf k a s xs) .number ≡ 0 → leb k 1000 ≡ true
   unfolding mesopicOf
-  setting a s xs e = held (leb k 1000) (λ p. let h = rw p at e in omega arith)
+  setting a s xs e = not-eq-not {a = leb k 1000} {b = true} .0 (λ p. let h = rw p at e in omega arith)
 
   pub mesopic-unit : OneUnit (λ a s xs. saidReading (mesopicOf k a s xs))
   unfolding mesopicOf
@@ -108,12 +103,12 @@ module _ (o : ℕ) where
   -- colours that are given have an observer
   xyz-observer : (a s : ℕ) (xs : List ℕ) → saidXyz (xyzOf o a s xs) .number ≡ 0 → isObserver o ≡ true
   unfolding xyzOf
-  xyz-observer a s xs e = held (isObserver o) (λ p. let h = rw p at e in omega arith)
+  xyz-observer a s xs e = not-eq-not {a = isObserver o} {b = true} .0 (λ p. let h = rw p at e in omega arith)
 
   -- and so have coordinates that are given, or dark
   xy-observer : (a s : ℕ) (xs : List ℕ) (n : ℕ) → saidXy (xyOf o a s xs) .number ≡ n → (6 ≡ n → ⊥) → isObserver o ≡ true
   unfolding xyOf
-  xy-observer a s xs n e other = held (isObserver o) (λ p. other (rw p at e))
+  xy-observer a s xs n e other = not-eq-not {a = isObserver o} {b = true} .0 (λ p. other (rw p at e))
 
   pub xyz-mixed : OneUnit (λ a s xs. saidXyz (xyzOf o a s xs))
   unfolding xyzOf
