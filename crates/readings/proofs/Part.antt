@@ -15,8 +15,7 @@ use Rattle.curves.specs.declared.weigh.Sums.{Sums}
 use Rattle.curves.specs.Colour.{colourOf}
 use Rattle.spectrum.specs.Begin.{Begins, Begun}
 use Rattle.spectrum.specs.declared.line.Begin.{Begin}
-use Rattle.spectrum.proofs.Begin.{partFrom, W-begun}
-use Rattle.spectrum.proofs.Begin as begin
+use Rattle.spectrum.proofs.Begin.{partFrom, few, begun, W-begun}
 use Rattle.readings.specs.Readings.{weighed, colourCheck}
 use Rattle.readings.specs.Colour.{LightSums}
 use Rattle.readings.proofs.Small.{sum-small}
@@ -56,10 +55,10 @@ pub record BegunLight (a s : ℕ) (xs : List ℕ) (b : Begin) : Type 0 where
 
 module _ {a s : ℕ} {xs : List ℕ} {b : Begin} (part : BegunLight a s xs b) where
   pub in-row : b .place ≤ length xs
-  in-row = begin.few a s xs (on-grid a s xs (part .light .fine)) b (part .begins)
+  in-row = few a s xs (on-grid a s xs (part .light .fine)) b (part .begins)
 
-  pub begun : Begun 1000000 (b .wavelength) s (partFrom (b .place) xs)
-  begun = let fine = part .light .fine in begin.begun a s xs (on-grid a s xs fine) b (part .begins) 1000000 (within a s xs fine)
+  pub part-begun : Begun 1000000 (b .wavelength) s (partFrom (b .place) xs)
+  part-begun = let fine = part .light .fine in begun a s xs (on-grid a s xs fine) b (part .begins) 1000000 (within a s xs fine)
 
   pub weighed-begun : (c : Curve) → weighed c (b .wavelength) s (partFrom (b .place) xs) ≡ weighed c a s xs
   weighed-begun c = W-begun a s xs (on-grid a s xs (part .light .fine)) b (part .begins) (weightOf c)

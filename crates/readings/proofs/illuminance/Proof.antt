@@ -3,7 +3,7 @@ use mathlib.Core.Path.{_∙_, sym}
 use native.Mathlib.Omega.{arith}
 use Rattle.answers.proofs.Values.{reading-factor}
 use Rattle.readings.specs.Readings.{illuminanceOf}
-use Rattle.readings.proofs.Part.{AcceptedLight, sought, step-small, BegunLight, in-row, begun, weighed-begun}
+use Rattle.readings.proofs.Part.{AcceptedLight, sought, step-small, BegunLight, in-row, part-begun, weighed-begun}
 use borrow.Author.Needs.{needs}
 use Rattle.readings.proofs.illuminance.Statement.{statement}
 use Rattle.readings.proofs.illuminance.Tie as tie
@@ -40,7 +40,7 @@ part-weighed-end : tie.Need-part-weighed-end
 part-weighed-end c = search needs
 
 weighed-requires : tie.Need-weighed-requires
-weighed-requires c κs = begun (part (c .before))
+weighed-requires c κs = part-begun (part (c .before))
 
 scale-requires : tie.Need-scale-requires
 scale-requires c κs = step-small (light (c .before .before .before))

@@ -7,7 +7,7 @@ use Rattle.tables.specs.declared.Curve.the-variants.{YBar, VPrime}
 use Rattle.answers.proofs.Values.{reading-factor}
 use Rattle.readings.specs.Readings.{mesopicWeighed, mesopicDivisor}
 use Rattle.readings.proofs.Small.{mesopic-divisor-kept}
-use Rattle.readings.proofs.Part.{AcceptedLight, sought, step-small, BegunLight, in-row, begun, weighed-begun}
+use Rattle.readings.proofs.Part.{AcceptedLight, sought, step-small, BegunLight, in-row, part-begun, weighed-begun}
 use borrow.Author.Needs.{needs}
 use Rattle.readings.proofs.mesopic_of_light.Statement.{statement}
 use Rattle.readings.proofs.mesopic_of_light.Tie as tie
@@ -55,7 +55,7 @@ part-mesopic-weighed-end : tie.Need-part-mesopic-weighed-end
 part-mesopic-weighed-end c = search needs
 
 mesopic-weighed-requires : tie.Need-mesopic-weighed-requires
-mesopic-weighed-requires c κs = (c .before .before .before .pre .0, begun (part (c .before)))
+mesopic-weighed-requires c κs = (c .before .before .before .pre .0, part-begun (part (c .before)))
 
 mul-bracket : tie.Need-mul-bracket
 mul-bracket c = search needs

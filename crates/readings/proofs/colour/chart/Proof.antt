@@ -1,4 +1,4 @@
--- The chart's point is that of the coordinates.
+-- The point is that of the coordinates, which come from the exact sums of an accepted light.
 use mathlib.Core.Path.{_∙_, sym}
 use Rattle.readings.specs.Readings.{chartOf}
 use Rattle.readings.proofs.Part.{AcceptedColour, light-of, total-small}

@@ -1,4 +1,4 @@
--- The observer is checked first.
+-- The observer's test is that of colourCheck, and comes before the light's check.
 use mathlib.Core.Path.{sym, _∙_}
 use borrow.Author.Needs.{needs}
 use Rattle.readings.proofs.colour.check_colour.Statement.{statement}

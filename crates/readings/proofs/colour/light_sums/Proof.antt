@@ -1,6 +1,6 @@
 -- The sums over the part are the light's.
 use native.Mathlib.Omega.{arith}
-use Rattle.readings.proofs.Part.{AcceptedLight, sought, BegunLight, in-row, begun, colour-begun}
+use Rattle.readings.proofs.Part.{AcceptedLight, sought, BegunLight, in-row, part-begun, colour-begun}
 use borrow.Author.Needs.{needs}
 use Rattle.readings.proofs.colour.light_sums.Statement.{statement}
 use Rattle.readings.proofs.colour.light_sums.Tie as tie
@@ -27,7 +27,7 @@ part-colour-sums-end : tie.Need-part-colour-sums-end
 part-colour-sums-end c = search needs
 
 colour-sums-requires : tie.Need-colour-sums-requires
-colour-sums-requires c κs = begun (part (c .before))
+colour-sums-requires c κs = part-begun (part (c .before))
 
 returns : tie.Need-returns
 returns c = colour-begun (part (c .before .before)) (c .colour-sums .ensures)

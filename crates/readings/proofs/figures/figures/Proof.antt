@@ -3,7 +3,7 @@ use mathlib.Core.Path.{_∙_, sym}
 use native.Mathlib.Omega.{arith}
 use Rattle.tables.specs.declared.Curve.the-variants.{VPrime}
 use Rattle.readings.specs.Readings.{illuminanceOf, xyzOf, xyOf}
-use Rattle.readings.proofs.Part.{AcceptedLight, sought, step-small, total-small, BegunLight, in-row, begun, weighed-begun, colour-begun}
+use Rattle.readings.proofs.Part.{AcceptedLight, sought, step-small, total-small, BegunLight, in-row, part-begun, weighed-begun, colour-begun}
 use borrow.Author.Needs.{needs}
 use Rattle.readings.proofs.figures.figures.Statement.{statement}
 use Rattle.readings.proofs.figures.figures.Tie as tie
@@ -40,7 +40,7 @@ part-figure-sums-end : tie.Need-part-figure-sums-end
 part-figure-sums-end c = search needs
 
 figure-sums-requires : tie.Need-figure-sums-requires
-figure-sums-requires c κs = begun (part (c .before))
+figure-sums-requires c κs = part-begun (part (c .before))
 
 scale-requires : tie.Need-scale-requires
 scale-requires c κs = step-small (light (c .before .before .before))
