@@ -47,6 +47,9 @@ pub step-range : (s : ℕ) → isStep s ≡ true → (1 ≤ s) × (s ≤ 10)
 step-range s e =
     ⊎-elim (λ p. omega arith) (⊎-elim (λ p. omega arith) (⊎-elim (λ p. omega arith) (λ p. omega arith))) (step-cases s e)
 
+pub start-range : (a : ℕ) → isStart a ≡ true → (300 ≤ a) × (a ≤ 380)
+start-range a e = let h = both (leb 300 a) (leb a 380) e in (leb-true 300 a (h .0), leb-true a 380 (h .1))
+
 pub accepted : (a s n : ℕ) → gridCheck a s n ≡ Fine → OnGrid a s n
 unfolding gridCheck
 accepted a s n e =
@@ -54,21 +57,20 @@ accepted a s n e =
     let start = passed (isStart a) (require (isCount a s n) 3 Fine) (refusal 2 0) (step .1) in
     let count = passed (isCount a s n) Fine (refusal 3 0) (start .1) in
     let range = step-range s (step .0) in
-    let start′ = both (leb 300 a) (leb a 380) (start .0) in
-    let count′ = both (ltb 0 n && leb 780 (lastOf a s n)) (leb (lastOf a s n) 830) (count .0) in
-    let count″ = both (ltb 0 n) (leb 780 (lastOf a s n)) (count′ .0) in
-    let low : 300 ≤ a = leb-true 300 a (start′ .0) in
-    let some : 0 < n = ltb-true 0 n (count″ .0) in
-    let last : a + s * (n - 1) ≤ 830 = leb-true (lastOf a s n) 830 (count′ .1) in
+    let from = start-range a (start .0) in
+    let ends = both (ltb 0 n && leb 780 (lastOf a s n)) (leb (lastOf a s n) 830) (count .0) in
+    let some-low = both (ltb 0 n) (leb 780 (lastOf a s n)) (ends .0) in
+    let some : 0 < n = ltb-true 0 n (some-low .0) in
+    let last : a + s * (n - 1) ≤ 830 = leb-true (lastOf a s n) 830 (ends .1) in
     let more : 1 * (n - 1) ≤ s * (n - 1) = mul-le-mul-right (n - 1) (range .0) in
     record {
       is-step = step .0;
       step-low = range .0;
       step-high = range .1;
-      start-low = low;
-      start-high = leb-true a 380 (start′ .1);
+      start-low = from .0;
+      start-high = from .1;
       some = some;
       many = omega arith;
-      last-low = leb-true 780 (lastOf a s n) (count″ .1);
+      last-low = leb-true 780 (lastOf a s n) (some-low .1);
       last-high = last;
     }

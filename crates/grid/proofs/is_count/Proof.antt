@@ -1,37 +1,32 @@
 -- The last wavelength, where there are so few samples that it can't wrap.
-use Prim.Native.Nat.{_+_, _*_, _-_, _≤_, _<_}
+use Prim.Native.Nat.{_+_, _*_, _-_, _≤_}
 use mathlib.Core.Bool.{and-false}
 use native.Mathlib.Nat.{mul-le-mul}
-use borrow.Author.Tests.{le-leb, lt-leb, lt-ltb, leb-true}
-use lib.Dec.{leb}
+use borrow.Author.Tests.{le-leb, lt-leb, lt-ltb}
 use native.Mathlib.Omega.{arith}
-use Rattle.grid.proofs.Accepted.{both, step-range}
+use Rattle.grid.proofs.Accepted.{step-range, start-range}
 use borrow.Author.Needs.{needs}
 use Rattle.grid.proofs.is_count.Statement.{statement}
 use Rattle.grid.proofs.is_count.Tie as tie
 
-abbrev begin : tie.Else2 → tie.Start
-begin c = c .before .before
-
-last-small : (c : tie.Else2) → (begin c .args .step * (begin c .args .count - 1) ≤ 5300) × (begin c .args .start ≤ 380)
+last-small : (c : tie.Else2) → let t = c .before .before .args in (t .step * (t .count - 1) ≤ 5300) × (t .start ≤ 380)
 last-small c =
-    let t = begin c .args in
+    let s = c .before .before in
+    let t = s .args in
     let few : t .count - 1 ≤ 530 = omega arith in
-    (mul-le-mul (step-range (t .step) (begin c .pre .0) .1) few, leb-true (t .start) 380 (both (leb 300 (t .start)) (leb (t .start) 380) (begin c .pre .1) .1))
+    (mul-le-mul (step-range (t .step) (s .pre .0) .1) few, start-range (t .start) (s .pre .1) .1)
 
 returns : tie.Need-returns
 returns c = rw (c .if1 .taken)
 
 returns-2 : tie.Need-returns-2
 returns-2 c =
-    let begin = c .before .before in
-    let a = begin .args .start in
-    let s = begin .args .step in
-    let n = begin .args .count in
-    let many : 531 ≤ n - 1 = omega arith in
-    let more : 531 ≤ s * (n - 1) = mul-le-mul {n₁ = 1} (step-range s (begin .pre .0) .0) many in
-    let low : 300 ≤ a = leb-true 300 a (both (leb 300 a) (leb a 380) (begin .pre .1) .0) in
-    rw (lt-leb (a + s * (n - 1)) 830 (omega arith), and-false)
+    let s = c .before .before in
+    let t = s .args in
+    let many : 531 ≤ t .count - 1 = omega arith in
+    let more : 531 ≤ t .step * (t .count - 1) = mul-le-mul {n₁ = 1} (step-range (t .step) (s .pre .0) .0) many in
+    let low = start-range (t .start) (s .pre .1) .0 in
+    rw (lt-leb (t .start + t .step * (t .count - 1)) 830 (omega arith), and-false)
 
 cast-last : tie.Need-cast-last
 cast-last c = search needs
@@ -47,12 +42,12 @@ add-last c = let h = last-small c in omega arith
 
 returns-3 : tie.Need-returns-3
 returns-3 c =
-    let t = begin (c .before) .args in
+    let t = c .before .before .before .args in
     rw (lt-ltb 0 (t .count) (omega arith), lt-leb 780 (t .start + t .step * (t .count - 1)) (c .if3 .taken))
 
 returns-4 : tie.Need-returns-4
 returns-4 c =
-    let t = begin (c .before) .args in
+    let t = c .before .before .before .args in
     rw (lt-ltb 0 (t .count) (omega arith), le-leb 780 (t .start + t .step * (t .count - 1)) (c .if3 .left))
 
 pub is-count-spec : {M : Type 1} → statement M
