@@ -48,7 +48,7 @@ pub record AcceptedColour (o a s : ℕ) (xs : List ℕ) : Type 0 where
 pub light-of : {o a s : ℕ} {xs : List ℕ} → AcceptedColour o a s xs → AcceptedLight a s xs
 light-of {o} {a} {s} {xs} colour = record { fine = passed (isObserver o) (lightCheck a s xs) (refusal 6 0) (colour .fine) .1 }
 
--- where its part begins
+-- an accepted light, and where its part begins
 pub record BegunLight (a s : ℕ) (xs : List ℕ) (b : Begin) : Type 0 where
   pub light : AcceptedLight a s xs
   pub begins : Begins a s b
