@@ -1,4 +1,4 @@
 -- Definitions of the crate `curves`.
-pub mod Colour
+pub mod Observer
 pub mod Lit
 pub mod Work

@@ -7,7 +7,7 @@ use Rattle.mixing.specs.Sum.{weighted, entryOf}
 use Rattle.tables.specs.declared.Curve.{Curve}
 use Rattle.tables.specs.declared.Illuminant.{Illuminant}
 use Rattle.tables.specs.Curves.{weightOf, powerOf}
-use Rattle.curves.specs.Colour.{colourOf}
+use Rattle.curves.specs.Observer.{curvesOf}
 use Rattle.curves.specs.declared.weigh.Sums.{Sums}
 
 -- illuminant times curve at each nanometre
@@ -16,6 +16,6 @@ litBy illuminant c k = powerOf illuminant k * weightOf c k
 
 -- the sums of a row, weighed by the observer's curves under the illuminant
 pub record LitSums (o : ℕ) (illuminant : Illuminant) (row : List ℕ) (sums : Sums) : Type 0 where
-  pub x : short (sums .x) ≡ weighted 471 (litBy illuminant (colourOf o .x)) (entryOf row)
-  pub y : short (sums .y) ≡ weighted 471 (litBy illuminant (colourOf o .y)) (entryOf row)
-  pub z : short (sums .z) ≡ weighted 471 (litBy illuminant (colourOf o .z)) (entryOf row)
+  pub x : short (sums .x) ≡ weighted 471 (litBy illuminant (curvesOf o .x)) (entryOf row)
+  pub y : short (sums .y) ≡ weighted 471 (litBy illuminant (curvesOf o .y)) (entryOf row)
+  pub z : short (sums .z) ≡ weighted 471 (litBy illuminant (curvesOf o .z)) (entryOf row)

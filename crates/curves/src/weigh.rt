@@ -15,10 +15,10 @@ ghost use Rattle.grid.specs.Check.{Within};
 ghost use Rattle.mixing.specs.Sum.{weighted, entryOf};
 ghost use Rattle.tables.specs.Curves.{weightOf};
 ghost use Rattle.tables.specs.Columns.{Halves};
-ghost use Rattle.curves.specs.Colour.{colourOf, RowSums};
+ghost use Rattle.curves.specs.Observer.{curvesOf, RowSums};
 
 // An observer's three curves.
-pub struct Colour {
+pub struct ObserverCurves {
     pub x: Curve,
     pub y: Curve,
     pub z: Curve,
@@ -31,17 +31,17 @@ pub struct Sums {
     pub z: Short,
 }
 
-pub fn colour_of(observer: u32) -> Colour
-    ensures { λ r. ⌜ r ≡ colourOf observer ⌝ }
+pub fn curves_of(observer: u32) -> ObserverCurves
+    ensures { λ r. ⌜ r ≡ curvesOf observer ⌝ }
 {
     if observer == 10 {
-        Colour {
+        ObserverCurves {
             x: Curve::XBar10,
             y: Curve::YBar10,
             z: Curve::ZBar10,
         }
     } else {
-        Colour {
+        ObserverCurves {
             x: Curve::XBar,
             y: Curve::YBar,
             z: Curve::ZBar,
@@ -54,10 +54,10 @@ pub fn row_sums(observer: u32, row: &[u64; 471]) -> Sums
     requires { ⌜ Within 10000000 (now row) ⌝ }
     ensures { λ r. ⌜ RowSums observer (now (row .entry)) r ⌝ }
 {
-    let colour = colour_of(observer);
-    let x = colour.x;
-    let y = colour.y;
-    let z = colour.z;
+    let curves = curves_of(observer);
+    let x = curves.x;
+    let y = curves.y;
+    let z = curves.z;
     Sums {
         x: weigh(x, row),
         y: weigh(y, row),

@@ -14,7 +14,7 @@ use Rattle.mixing.proofs.Sum.{weighted-ext, weighted-swap, total-mul}
 use Rattle.spectrum.specs.Line.{lineAt, T, listed, rowOf, W}
 use Rattle.spectrum.proofs.Light.{row-weighed}
 use Rattle.grid.specs.Said.{value}
-use Rattle.curves.specs.Colour.{colourOf}
+use Rattle.curves.specs.Observer.{curvesOf}
 use Rattle.panel.specs.Panel.{isIlluminant, illuminantOf, surfaceCheck, panelCheck, whiteSum, ySum}
 use Rattle.curves.specs.Lit.{litBy}
 use Rattle.panel.specs.Promises.{xyz, fullWhite}
@@ -51,6 +51,6 @@ unfolding panelCheck whiteSum
 white o i s p q r =
     let fine : panelCheck o i 360 s (fullWhite s) ≡ Fine = rw (p, q) (accepted s r) in
     let e : ySum o i 360 s (fullWhite s) ≡ s * 10000 * whiteSum o i =
-    full-sum (litBy (illuminantOf i) (colourOf o .y)) s r in
+    full-sum (litBy (illuminantOf i) (curvesOf o .y)) s r in
     let y : 10 * ySum o i 360 s (fullWhite s) ≡ 100000 * (s * whiteSum o i) = omega arith in
     (given o i 360 s (fullWhite s) fine, rw (values o i 360 s (fullWhite s) fine, y) (nearest-times 100000 (s * whiteSum o i) (divisor-some o i 360 s (fullWhite s) fine)))

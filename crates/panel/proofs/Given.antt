@@ -17,7 +17,7 @@ use Rattle.spectrum.proofs.Measured.{W-linear}
 use Rattle.tables.proofs.Sums.{lit-total}
 use Rattle.answers.specs.declared.XyzAnswer.{XyzAnswer}
 use Rattle.grid.specs.Said.{value}
-use Rattle.curves.specs.Colour.{colourOf}
+use Rattle.curves.specs.Observer.{curvesOf}
 use Rattle.answers.proofs.Values.{xyz-given}
 use Rattle.answers.proofs.Mixed.{xyz-order}
 use Rattle.panel.specs.Panel.{illuminantOf, panelCheck, whiteSum, xSum, ySum, zSum, panelXyzOf}
@@ -55,7 +55,7 @@ module _ (o i a s : ℕ) (rs : List ℕ) (fine : panelCheck o i a s rs ≡ Fine)
   values =
       rw fine
       (xyz-given (10 * xSum o i a s rs) (10 * ySum o i a s rs) (10 * zSum o i a s rs) (s * whiteSum o i)
-      (fits (colourOf o .x)) (fits (colourOf o .y)) (fits (colourOf o .z)))
+      (fits (curvesOf o .x)) (fits (curvesOf o .y)) (fits (curvesOf o .z)))
 
   pub given : xyz o i a s rs .number ≡ 0
   given = rw values
@@ -73,6 +73,6 @@ order o i a s rs qs p q l b k =
     let n = length rs in
     rw (p, q)
     (xyz-order n (s * whiteSum o i) (divisor-some o i a s rs p) rs qs refl (sym l) (λ zs. 10 * xSum o i a s zs)
-    (λ zs. 10 * ySum o i a s zs) (λ zs. 10 * zSum o i a s zs) (ten-linear o i a s n (colourOf o .x))
-    (ten-linear o i a s n (colourOf o .y)) (ten-linear o i a s n (colourOf o .z)) b
+    (λ zs. 10 * ySum o i a s zs) (λ zs. 10 * zSum o i a s zs) (ten-linear o i a s n (curvesOf o .x))
+    (ten-linear o i a s n (curvesOf o .y)) (ten-linear o i a s n (curvesOf o .z)) b
     (rw p at (given o i a s rs p)) (rw q at (given o i a s qs q)) k)

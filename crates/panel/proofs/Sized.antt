@@ -10,7 +10,7 @@ use Rattle.tables.specs.declared.Curve.{Curve}
 use Rattle.mixing.specs.Sum.{total}
 use Rattle.spectrum.specs.Line.{W}
 use Rattle.spectrum.proofs.Light.{W-bound}
-use Rattle.curves.specs.Colour.{colourOf}
+use Rattle.curves.specs.Observer.{curvesOf}
 use Rattle.panel.specs.Panel.{illuminantOf, surfaceCheck, whiteSum, xSum, ySum, zSum}
 use Rattle.curves.specs.Lit.{litBy}
 use Rattle.tables.proofs.Sums.{lit-total}
@@ -25,7 +25,7 @@ module _ (o i : ℕ) where
   pub divisor-kept : (s : ℕ) → s ≤ 10 → (whiteSum o i * s + 0) % 2 ^ 96 ≡ s * whiteSum o i
   unfolding whiteSum
   divisor-kept s h =
-      let x : whiteSum o i * s ≤ 52320400000000000000000 * 10 = mul-le-mul (lit-total (illuminantOf i) (colourOf o .y)) h in
+      let x : whiteSum o i * s ≤ 52320400000000000000000 * 10 = mul-le-mul (lit-total (illuminantOf i) (curvesOf o .y)) h in
       mod-eq-of-lt (omega arith) ∙ omega arith
 
 module _ (a s : ℕ) (rs : List ℕ) (fine : surfaceCheck a s rs ≡ Fine) where
@@ -39,7 +39,7 @@ module _ (a s : ℕ) (rs : List ℕ) (fine : surfaceCheck a s rs ≡ Fine) where
 
   pub colour-small : (o i : ℕ) → xSum o i a s rs + ySum o i a s rs + zSum o i a s rs < 2 ^ 96
   colour-small o i =
-      let x = sum-small i (colourOf o .x) in
-      let y = sum-small i (colourOf o .y) in
-      let z = sum-small i (colourOf o .z) in
+      let x = sum-small i (curvesOf o .x) in
+      let y = sum-small i (curvesOf o .y) in
+      let z = sum-small i (curvesOf o .z) in
       omega arith

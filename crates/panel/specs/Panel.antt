@@ -17,7 +17,7 @@ use Rattle.answers.specs.declared.XyzAnswer.{XyzAnswer}
 use Rattle.answers.specs.declared.XyAnswer.{XyAnswer}
 use Rattle.answers.specs.declared.ChartAnswer.{ChartAnswer}
 use Rattle.answers.specs.Worked.{xyzFrom, xyFrom, onChart}
-use Rattle.curves.specs.Colour.{colourOf}
+use Rattle.curves.specs.Observer.{curvesOf}
 
 -- ILLUMINANT: neither 1 (A) nor 2 (D65)
 abbrev pub isIlluminant : ℕ → Bool
@@ -40,18 +40,18 @@ panelCheck o i a s rs = require (isObserver o) OBSERVER (require (isIlluminant i
 
 -- multiply the chosen illuminant, T and x̄ at each nanometre from 360 to 830, and add up: the panel's X sum
 abbrev pub xSum : ℕ → ℕ → ℕ → ℕ → List ℕ → ℕ
-xSum o i a s rs = W (litBy (illuminantOf i) (colourOf o .x)) a s rs
+xSum o i a s rs = W (litBy (illuminantOf i) (curvesOf o .x)) a s rs
 
 -- Y and Z sums likewise, observer 10 with its own functions
 abbrev pub ySum : ℕ → ℕ → ℕ → ℕ → List ℕ → ℕ
-ySum o i a s rs = W (litBy (illuminantOf i) (colourOf o .y)) a s rs
+ySum o i a s rs = W (litBy (illuminantOf i) (curvesOf o .y)) a s rs
 
 abbrev pub zSum : ℕ → ℕ → ℕ → ℕ → List ℕ → ℕ
-zSum o i a s rs = W (litBy (illuminantOf i) (colourOf o .z)) a s rs
+zSum o i a s rs = W (litBy (illuminantOf i) (curvesOf o .z)) a s rs
 
 -- the white sum adds illuminant times ȳ over the same nanometres, with the ȳ of the observer asked for
 unfoldable pub whiteSum : ℕ → ℕ → ℕ
-whiteSum o i = total 471 (litBy (illuminantOf i) (colourOf o .y))
+whiteSum o i = total 471 (litBy (illuminantOf i) (curvesOf o .y))
 
 -- X is the nearest of 10 times the X sum over s times the white sum, in thousandths; Y and Z likewise
 unfoldable pub panelXyzOf : ℕ → ℕ → ℕ → ℕ → List ℕ → XyzAnswer

@@ -33,7 +33,7 @@ use Rattle.tables.proofs.x_bar_10.Reads as x-bar-10
 use Rattle.tables.proofs.y_bar_10.Reads as y-bar-10
 use Rattle.tables.proofs.z_bar_10.Reads as z-bar-10
 use Rattle.tables.proofs.v_prime.Reads as v-prime
-use Rattle.curves.proofs.weigh.colour_of.Reads as colour-of
+use Rattle.curves.proofs.weigh.curves_of.Reads as curves-of
 use Rattle.curves.proofs.weigh.weigh.Reads as weigh
 use Rattle.curves.proofs.weigh.row_sums.Reads as row-sums
 use Rattle.curves.proofs.lit.lit_sums.Reads as lit-sums
@@ -164,8 +164,8 @@ one-v-prime k a r q e f p s = same p s
 
 -- curves
 
-one-colour-of : OneResult colour-of.Post
-one-colour-of k a r q e f p s = same p s
+one-curves-of : OneResult curves-of.Post
+one-curves-of k a r q e f p s = same p s
 
 one-weigh : OneResult (Fitting ShortFits weigh.Post)
 one-weigh k a r q e f p s = same-short (p .0) (s .0) (same (p .1) (s .1))

@@ -19,7 +19,7 @@ use Rattle.tables.specs.Curves.{weightOf}
 use Rattle.spectrum.proofs.Measured.{W-linear}
 use Rattle.grid.proofs.Light.{grid-fine, on-grid}
 use Rattle.answers.specs.Said.{saidReading, saidXyz, saidXy}
-use Rattle.curves.specs.Colour.{ofObserver, colourOf}
+use Rattle.curves.specs.Observer.{ofObserver, curvesOf}
 use Rattle.answers.proofs.Mixed.{reading-unit, reading-order, xyz-unit, xyz-order, xy-between, xy-one-dark}
 use Rattle.readings.specs.Readings.{weighed, illuminanceOf, mesopicOf, mesopicSum, mesopicDivisor, xyzOf, xyOf}
 use Rattle.readings.specs.Promises.{Mixable, OneUnit, InOrder, BothLit, OneDark}
@@ -118,8 +118,8 @@ module _ (o : ℕ) where
       let n = length xs in
       let k : ℕ = ofObserver o 683 684 in
       rw (t, m .first, m .second, mixed)
-      (xyz-unit n (s * 10 ^ 16) (scale-pos a s xs (m .first)) xs ys refl (sym (m .one-grid)) _ _ _ (efficacy-linear (colourOf o .x) k n a s)
-      (efficacy-linear (colourOf o .y) k n a s) (efficacy-linear (colourOf o .z) k n a s)
+      (xyz-unit n (s * 10 ^ 16) (scale-pos a s xs (m .first)) xs ys refl (sym (m .one-grid)) _ _ _ (efficacy-linear (curvesOf o .x) k n a s)
+      (efficacy-linear (curvesOf o .y) k n a s) (efficacy-linear (curvesOf o .z) k n a s)
       (rw (t, m .first) at e) (rw (t, m .second) at f) (rw (t, mixed) at g) i)
 
   pub xyz-ordered : InOrder (λ a s xs. saidXyz (xyzOf o a s xs))
@@ -129,8 +129,8 @@ module _ (o : ℕ) where
       let n = length xs in
       let k : ℕ = ofObserver o 683 684 in
       rw (t, p, q)
-      (xyz-order n (s * 10 ^ 16) (scale-pos a s xs p) xs ys refl (sym l) _ _ _ (efficacy-linear (colourOf o .x) k n a s)
-      (efficacy-linear (colourOf o .y) k n a s) (efficacy-linear (colourOf o .z) k n a s) b (rw (t, p) at e) (rw (t, q) at f) i)
+      (xyz-order n (s * 10 ^ 16) (scale-pos a s xs p) xs ys refl (sym l) _ _ _ (efficacy-linear (curvesOf o .x) k n a s)
+      (efficacy-linear (curvesOf o .y) k n a s) (efficacy-linear (curvesOf o .z) k n a s) b (rw (t, p) at e) (rw (t, q) at f) i)
 
   pub between : BothLit (λ a s xs. saidXy (xyOf o a s xs))
   unfolding xyOf
@@ -138,7 +138,7 @@ module _ (o : ℕ) where
       let n = length xs in
       let t = xy-observer a s xs 0 e (λ h. omega arith) in
       rw (t, m .first, m .second, mixture-accepted a s xs ys m)
-      (xy-between n _ _ _ (curve-linear n (colourOf o .x) a s) (curve-linear n (colourOf o .y) a s) (curve-linear n (colourOf o .z) a s)
+      (xy-between n _ _ _ (curve-linear n (curvesOf o .x) a s) (curve-linear n (curvesOf o .y) a s) (curve-linear n (curvesOf o .z) a s)
       xs ys refl (sym (m .one-grid)) (rw (t, m .first) at e) (rw (t, m .second) at f))
 
   pub one-dark : OneDark (λ a s xs. saidXy (xyOf o a s xs))
@@ -147,5 +147,5 @@ module _ (o : ℕ) where
       let n = length xs in
       let t = xy-observer a s xs 9 e (λ h. omega arith) in
       rw (t, m .second, mixture-accepted a s xs ys m, mixture-accepted a s ys xs (swapped a s xs ys m))
-      (xy-one-dark n _ _ _ (curve-linear n (colourOf o .x) a s) (curve-linear n (colourOf o .y) a s) (curve-linear n (colourOf o .z) a s)
+      (xy-one-dark n _ _ _ (curve-linear n (curvesOf o .x) a s) (curve-linear n (curvesOf o .y) a s) (curve-linear n (curvesOf o .z) a s)
       xs ys refl (sym (m .one-grid)) (rw (t, m .first) at e))

@@ -5,7 +5,7 @@ use Prim.Native.Nat.{ℕ}
 use Rattle.spectrum.specs.Line.{rowOf}
 use Rattle.spectrum.proofs.Light.{row-weighed}
 use Rattle.curves.specs.declared.weigh.Sums.{Sums}
-use Rattle.curves.specs.Colour.{RowSums}
+use Rattle.curves.specs.Observer.{RowSums}
 use Rattle.readings.specs.Colour.{LightSums}
 
 pub light-sums : (o a s : ℕ) (xs : List ℕ) (sums : Sums) → RowSums o (rowOf a s xs) sums → LightSums o a s xs sums

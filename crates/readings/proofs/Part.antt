@@ -12,7 +12,7 @@ use Rattle.exact.specs.Value.{short}
 use Rattle.tables.specs.declared.Curve.{Curve}
 use Rattle.tables.specs.Curves.{weightOf}
 use Rattle.curves.specs.declared.weigh.Sums.{Sums}
-use Rattle.curves.specs.Colour.{colourOf}
+use Rattle.curves.specs.Observer.{curvesOf}
 use Rattle.spectrum.specs.Begin.{Begins, Begun}
 use Rattle.spectrum.specs.declared.line.Begin.{Begin}
 use Rattle.spectrum.proofs.Begin.{partFrom, few, begun, W-begun}
@@ -36,9 +36,9 @@ module _ {a s : ℕ} {xs : List ℕ} (light : AcceptedLight a s xs) where
   pub total-small : {o : ℕ} {sums : Sums} → LightSums o a s xs sums → short (sums .x) + short (sums .y) + short (sums .z) < 2 ^ 96
   total-small {o} is =
       let small = sum-small a s xs (sought .0) step-small (within a s xs (light .fine)) in
-      let x = small (colourOf o .x) in
-      let y = small (colourOf o .y) in
-      let z = small (colourOf o .z) in
+      let x = small (curvesOf o .x) in
+      let y = small (curvesOf o .y) in
+      let z = small (curvesOf o .z) in
       rw (is .x, is .y, is .z) (omega arith)
 
 -- one whose observer passed too
@@ -65,7 +65,7 @@ module _ {a s : ℕ} {xs : List ℕ} {b : Begin} (part : BegunLight a s xs b) wh
 
   pub colour-begun : {o : ℕ} {sums : Sums} → LightSums o (b .wavelength) s (partFrom (b .place) xs) sums → LightSums o a s xs sums
   colour-begun {o} is = record {
-    x = is .x ∙ weighed-begun (colourOf o .x);
-    y = is .y ∙ weighed-begun (colourOf o .y);
-    z = is .z ∙ weighed-begun (colourOf o .z);
+    x = is .x ∙ weighed-begun (curvesOf o .x);
+    y = is .y ∙ weighed-begun (curvesOf o .y);
+    z = is .z ∙ weighed-begun (curvesOf o .z);
   }

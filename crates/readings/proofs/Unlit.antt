@@ -22,7 +22,7 @@ use Rattle.answers.specs.declared.XyzAnswer.{XyzAnswer}
 use Rattle.answers.specs.declared.XyAnswer.{XyAnswer}
 use Rattle.answers.specs.declared.ChartAnswer.{ChartAnswer}
 use Rattle.answers.specs.Worked.{readingFrom, xyzFrom, xyFrom, onChart}
-use Rattle.curves.specs.Colour.{ofObserver, colourOf}
+use Rattle.curves.specs.Observer.{ofObserver, curvesOf}
 use Rattle.readings.specs.declared.figures.FiguresAnswer.{FiguresAnswer}
 use Rattle.readings.specs.Readings.{weighed, illuminanceOf, mesopicOf, xyzOf, xyOf, chartOf, figuresOf}
 use Rattle.readings.specs.Promises.{Unlit, Colourless}
@@ -63,8 +63,8 @@ module _ (a s : ℕ) (xs : List ℕ) (fine : lightCheck a s xs ≡ Fine) where
       rw (le-leb k 1000 h, fine, no-sum YBar day, no-sum VPrime night, mul-zero k, mul-zero (1000 - k), nearest-none)
 
   module _ (o : ℕ) (e : isObserver o ≡ true) (unlit : Colourless o a s xs) where
-    no-sums : (weighed (colourOf o .x) a s xs ≡ 0) × (weighed (colourOf o .y) a s xs ≡ 0) × (weighed (colourOf o .z) a s xs ≡ 0)
-    no-sums = (no-sum (colourOf o .x) (unlit .0), no-sum (colourOf o .y) (unlit .1), no-sum (colourOf o .z) (unlit .2))
+    no-sums : (weighed (curvesOf o .x) a s xs ≡ 0) × (weighed (curvesOf o .y) a s xs ≡ 0) × (weighed (curvesOf o .z) a s xs ≡ 0)
+    no-sums = (no-sum (curvesOf o .x) (unlit .0), no-sum (curvesOf o .y) (unlit .1), no-sum (curvesOf o .z) (unlit .2))
 
     pub no-xyz : xyzOf o a s xs ≡ XyzAnswer.Value (record { x = 0; y = 0; z = 0 })
     unfolding xyzOf xyzFrom

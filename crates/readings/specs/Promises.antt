@@ -15,7 +15,7 @@ use Rattle.tables.specs.Curves.{weightOf}
 use Rattle.spectrum.specs.Line.{T}
 use Rattle.grid.specs.Said.{Said, value, given, refusedWith}
 use Rattle.answers.specs.Said.{saidReading, saidXyz, saidXy, saidChart}
-use Rattle.curves.specs.Colour.{colourOf}
+use Rattle.curves.specs.Observer.{curvesOf}
 use Rattle.readings.specs.Readings.{photopicOf, scotopicOf, photopic10Of, mesopicOf, xyzOf, xyOf, chartOf, figuresOf}
 use Rattle.readings.specs.Figures.{saidFigures}
 
@@ -80,7 +80,7 @@ Unlit c a s xs = (k : ℕ) → weightOf c k * T a s xs (360 + k) ≡ 0
 -- and none where any of the observer's three has
 abbrev pub Colourless : ℕ → ℕ → ℕ → List ℕ → Type 0
 Colourless o a s xs =
-    Unlit (colourOf o .x) a s xs × Unlit (colourOf o .y) a s xs × Unlit (colourOf o .z) a s xs
+    Unlit (curvesOf o .x) a s xs × Unlit (curvesOf o .y) a s xs × Unlit (curvesOf o .z) a s xs
 
 -- one reading of zero; X, Y and Z of zero; a colour refused as dark
 abbrev pub nought : Said

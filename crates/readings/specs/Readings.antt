@@ -14,7 +14,7 @@ use Rattle.answers.specs.declared.XyzAnswer.{XyzAnswer}
 use Rattle.answers.specs.declared.XyAnswer.{XyAnswer}
 use Rattle.answers.specs.declared.ChartAnswer.{ChartAnswer}
 use Rattle.answers.specs.Worked.{readingFrom, xyzFrom, xyFrom, onChart}
-use Rattle.curves.specs.Colour.{ofObserver, colourOf}
+use Rattle.curves.specs.Observer.{ofObserver, curvesOf}
 use Rattle.readings.specs.declared.figures.FiguresAnswer.{FiguresAnswer}
 
 -- W of a curve
@@ -60,13 +60,13 @@ abbrev pub colourCheck : ℕ → ℕ → ℕ → List ℕ → Check
 colourCheck o a s xs = require (isObserver o) OBSERVER (lightCheck a s xs)
 
 abbrev pub xSum : ℕ → ℕ → ℕ → List ℕ → ℕ
-xSum o a s xs = weighed (colourOf o .x) a s xs
+xSum o a s xs = weighed (curvesOf o .x) a s xs
 
 abbrev pub ySum : ℕ → ℕ → ℕ → List ℕ → ℕ
-ySum o a s xs = weighed (colourOf o .y) a s xs
+ySum o a s xs = weighed (curvesOf o .y) a s xs
 
 abbrev pub zSum : ℕ → ℕ → ℕ → List ℕ → ℕ
-zSum o a s xs = weighed (colourOf o .z) a s xs
+zSum o a s xs = weighed (curvesOf o .z) a s xs
 
 -- X, Y, Z in millilux: 683 W / (s · 10^16), and 684 for observer 10
 unfoldable pub xyzOf : ℕ → ℕ → ℕ → List ℕ → XyzAnswer

@@ -17,7 +17,7 @@ use spectrum::line::begin_at_360;
 ghost use mathlib.Core.Path.{_≡_};
 ghost use Rattle.grid.specs.declared.Check.the-variants.{Fine};
 ghost use Rattle.grid.specs.Check.{lightCheck};
-ghost use Rattle.curves.specs.Colour.{ofObserver};
+ghost use Rattle.curves.specs.Observer.{ofObserver};
 ghost use Rattle.readings.specs.Readings.{colourCheck, xyzOf, xyOf, chartOf};
 ghost use Rattle.readings.specs.Colour.{LightSums};
 

@@ -3,8 +3,8 @@ use borrow.Author.Needs.{needs}
 use Rattle.curves.proofs.weigh.row_sums.Statement.{statement}
 use Rattle.curves.proofs.weigh.row_sums.Tie as tie
 
-colour-of-requires : tie.Need-colour-of-requires
-colour-of-requires c κs = search needs
+curves-of-requires : tie.Need-curves-of-requires
+curves-of-requires c κs = search needs
 
 weigh-requires : tie.Need-weigh-requires
 weigh-requires c κs = search needs
@@ -17,7 +17,7 @@ weigh-requires-3 c κs = search needs
 
 returns : tie.Need-returns
 returns c =
-    let curves = c .before .before .before .colour-of .ensures in
+    let curves = c .before .before .before .curves-of .ensures in
     record {
       x = rw curves at (c .before .before .weigh .ensures);
       y = rw curves at (c .before .weigh2 .ensures);
@@ -25,4 +25,4 @@ returns c =
     }
 
 pub row-sums-spec : {M : Type 1} → statement M
-row-sums-spec = tie.close (tie.spec colour-of-requires weigh-requires weigh-requires-2 weigh-requires-3 returns)
+row-sums-spec = tie.close (tie.spec curves-of-requires weigh-requires weigh-requires-2 weigh-requires-3 returns)

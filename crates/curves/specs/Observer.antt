@@ -8,18 +8,18 @@ use Rattle.exact.specs.Value.{short}
 use Rattle.mixing.specs.Sum.{weighted, entryOf}
 use Rattle.tables.specs.declared.Curve.the-variants.{XBar, YBar, ZBar, XBar10, YBar10, ZBar10}
 use Rattle.tables.specs.Curves.{weightOf}
-use Rattle.curves.specs.declared.weigh.Colour.{Colour}
+use Rattle.curves.specs.declared.weigh.ObserverCurves.{ObserverCurves}
 use Rattle.curves.specs.declared.weigh.Sums.{Sums}
 
 -- what observer 10 has in place of what observer 2 has
 abbrev pub ofObserver : {A : Type 0} → ℕ → A → A → A
 ofObserver o two ten = cond (eqb o 10) ten two
 
-abbrev pub colourOf : ℕ → Colour
-colourOf o = record { x = ofObserver o XBar XBar10; y = ofObserver o YBar YBar10; z = ofObserver o ZBar ZBar10 }
+abbrev pub curvesOf : ℕ → ObserverCurves
+curvesOf o = record { x = ofObserver o XBar XBar10; y = ofObserver o YBar YBar10; z = ofObserver o ZBar ZBar10 }
 
 -- the sums of a row, weighed by the observer's curves
 pub record RowSums (o : ℕ) (row : List ℕ) (sums : Sums) : Type 0 where
-  pub x : short (sums .x) ≡ weighted 471 (weightOf (colourOf o .x)) (entryOf row)
-  pub y : short (sums .y) ≡ weighted 471 (weightOf (colourOf o .y)) (entryOf row)
-  pub z : short (sums .z) ≡ weighted 471 (weightOf (colourOf o .z)) (entryOf row)
+  pub x : short (sums .x) ≡ weighted 471 (weightOf (curvesOf o .x)) (entryOf row)
+  pub y : short (sums .y) ≡ weighted 471 (weightOf (curvesOf o .y)) (entryOf row)
+  pub z : short (sums .z) ≡ weighted 471 (weightOf (curvesOf o .z)) (entryOf row)
