@@ -15,6 +15,7 @@ use Rattle.curves.specs.declared.weigh.Sums.{Sums}
 abbrev pub ofObserver : {A : Type 0} → ℕ → A → A → A
 ofObserver o two ten = cond (eqb o 10) ten two
 
+-- x̄, ȳ and z̄, observer 10 with its own functions
 abbrev pub curvesOf : ℕ → ObserverCurves
 curvesOf o = record { x = ofObserver o XBar XBar10; y = ofObserver o YBar YBar10; z = ofObserver o ZBar ZBar10 }
 

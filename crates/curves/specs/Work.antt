@@ -6,6 +6,7 @@ use Rattle.exact.specs.Value.{short}
 use Rattle.mixing.specs.Sum.{weighted, entryOf}
 use Rattle.curves.specs.declared.weigh.Sums.{Sums}
 
+-- the sum of weight times power times row
 abbrev pub litSum : List ℕ → List ℕ → List ℕ → ℕ
 litSum weights powers row = weighted 471 (entryOf weights) (λ k. entryOf powers k * entryOf row k)
 

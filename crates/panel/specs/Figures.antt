@@ -13,6 +13,7 @@ abbrev pub joinedFigures : XyzAnswer → XyAnswer → PanelFiguresAnswer
 joinedFigures (XyzAnswer.Refused r) xy = PanelFiguresAnswer.Refused r
 joinedFigures (XyzAnswer.Value v) xy = PanelFiguresAnswer.Value (record { xyz = v; xy = xy })
 
+-- X, Y, Z and x, y, each as it is answered by itself
 abbrev pub panelFiguresOf : ℕ → ℕ → ℕ → ℕ → List ℕ → PanelFiguresAnswer
 panelFiguresOf o i a s rs = joinedFigures (panelXyzOf o i a s rs) (panelXyOf o i a s rs)
 

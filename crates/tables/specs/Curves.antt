@@ -8,6 +8,7 @@ use Rattle.tables.specs.declared.Curve.the-variants.{XBar, YBar, ZBar, X
 use Rattle.tables.specs.declared.Illuminant.{Illuminant}
 use Rattle.tables.specs.declared.Illuminant.the-variants.{A, D65}
 
+-- the whole table of a curve, from 360 nm on
 unfoldable pub table : Curve → List ℕ
 table XBar = xBar
 table YBar = yBar
@@ -17,6 +18,7 @@ table YBar10 = yBar10
 table ZBar10 = zBar10
 table VPrime = vPrime
 
+-- and of an illuminant
 unfoldable pub powers : Illuminant → List ℕ
 powers A = illuminantA
 powers D65 = illuminantD65
