@@ -1,3 +1,5 @@
 -- Laws of weighted rows.
+pub mod Filled
 pub mod Rows
+pub mod ByCurve
 pub mod Product

@@ -1,43 +1,90 @@
--- Laws of a line's weighted sum: one place more, its bound, and what the halves of the weights make together.
-use mathlib.Core.Path.{_≡_, _∙_, ap}
+-- Laws of a row's weighted sum, by weights that are held in units: one place more, its bound, and what a stretch of places adds.
+use mathlib.Core.Path.{_≡_, refl, _∙_, ap}
 use mathlib.Core.List.{List}
-use Prim.Native.Nat.{ℕ, _+_, _*_, _/_, _%_, _^_, _≤_, _<_}
-use native.Mathlib.Nat.{mod-eq-of-lt, le-trans, mul-le-mul-left}
+use Prim.Native.Nat.{ℕ, suc, _+_, _*_, _-_, _%_, _^_, _≤_, _<_}
+use native.Mathlib.Nat.{mod-eq-of-lt, le-refl, le-trans, mul-le-mul-left, mul-comm, mul-left-comm, add-mul}
+use native.Mathlib.Decide.{le-ind}
 use native.Mathlib.Omega.{arith}
-use lib.ListN.{getD}
+use borrow.Author.Tests.{lt-ltb, le-ltb}
+use Rattle.grid.specs.Check.{Within}
 use Rattle.mixing.specs.Sum.{total, weighted, entryOf}
-use Rattle.mixing.proofs.Sum.{weighted-one, weighted-bound, weighted-split}
-use Rattle.tables.specs.Columns.{Halves}
+use Rattle.mixing.proofs.Sum.{total-more, weighted-one, weighted-bound}
+use Rattle.tables.specs.declared.units.Units.{Units}
+use Rattle.tables.specs.Held.{unitAt, valueOf, Held}
+use Rattle.curves.specs.Work.{stretchSum}
 
--- the halves of a table's entries
-abbrev pub upper : List ℕ → ℕ → ℕ
-upper weights k = getD weights k 0 / 2 ^ 32
+weighted-more : (k n : ℕ) (v t : ℕ → ℕ) → k ≤ n → weighted k v t ≤ weighted n v t
+unfolding weighted
+weighted-more k n v t h = total-more k n (λ j. v j * t j) h
 
-abbrev pub lower : List ℕ → ℕ → ℕ
-lower weights k = getD weights k 0 % 2 ^ 32
+-- no entry is above the sum of all
+pub entry-most : (f : ℕ → ℕ) (k n : ℕ) → k < n → f k ≤ total n f
+unfolding total
+entry-most f k n h = let more = total-more (suc k) n f h in omega arith
 
-module _ (line : ℕ → ℕ) (small : (k : ℕ) → line k ≤ 10000000) where
-  -- one place more, where t stands
+module _ (line : ℕ → ℕ) (small : (k : ℕ) → line k ≤ 10000000) (f : ℕ → ℕ) where
+  -- one place more, where t stands, of a stretch that begins where `before` is the sum
   pub next :
-      (f : ℕ → ℕ) (k sum t : ℕ) → sum ≡ weighted k f line → t ≡ line k → sum + f k * t ≡ weighted (k + 1) f line
-  next f k sum t e is =
+      (k before sum t : ℕ) → sum + before ≡ weighted k f line → t ≡ line k → sum + f k * t + before ≡ weighted (k + 1) f line
+  next k before sum t e is =
       let m : f k * t ≡ f k * line k = ap (λ (x : ℕ). f k * x) is in
       (let w = weighted-one k f line in omega arith)
 
   -- weights that add up to at most 10^12 make a sum that fits 64 bits
-  fits : (f : ℕ → ℕ) → total 471 f ≤ 1000000000000 → (k : ℕ) → k ≤ 471 → weighted k f line ≤ 10000000000000000000
-  fits f h k l = le-trans (weighted-bound 10000000 k 471 f line small l) (mul-le-mul-left 10000000 h)
+  pub fits : total 471 f ≤ 1000000000000 → (k : ℕ) → k ≤ 471 → weighted k f line ≤ 10000000000000000000
+  fits h k l = le-trans (weighted-bound 10000000 k 471 f line small l) (mul-le-mul-left 10000000 h)
 
-  pub next-fits :
-      (f : ℕ → ℕ) → total 471 f ≤ 1000000000000 → (k sum t : ℕ) → k < 471 → sum ≡ weighted k f line → t ≡ line k →
-      sum + f k * t ≤ 10000000000000000000
-  next-fits f h k sum t l e is = rw (next f k sum t e is) (fits f h (k + 1) (omega arith))
+-- over a stretch of one unit, the sum that is counted in it becomes the sum at full value
+module _ (p begin : ℕ) (u f line : ℕ → ℕ) where
+  abbrev added : ℕ → ℕ
+  added n = weighted n f line - weighted begin f line
 
-  pub whole :
-      (weights : List ℕ) → Halves weights → (high low : ℕ) → high ≡ weighted 471 (upper weights) line →
-      low ≡ weighted 471 (lower weights) line → (high * 2 ^ 32 + low) % 2 ^ 96 ≡ weighted 471 (entryOf weights) line
-  whole weights h high low p q =
-      let a = fits (upper weights) (h .high) 471 (omega arith) in
-      let b = fits (lower weights) (h .low) 471 (omega arith) in
-      let small-enough : high * 2 ^ 32 + low < 2 ^ 96 = omega arith in
-      mod-eq-of-lt small-enough ∙ (rw (p, q) (weighted-split (2 ^ 32) 471 (entryOf weights) line))
+  abbrev full : ℕ → ℕ
+  full n = weighted n (λ k. u k * f k) line
+
+  more : (n : ℕ) → begin ≤ n → added n * p + full begin ≡ full n → u n ≡ p → added (suc n) * p + full begin ≡ full (suc n)
+  unfolding weighted total
+  more n l ih is =
+      let grows : added (suc n) ≡ added n + f n * line n = (let h = total-more begin n (λ j. f j * line j) l in omega arith) in
+      let apart = add-mul (added n) (f n * line n) p in
+      let same : u n * f n * line n ≡ f n * line n * p = rw is (turned p (f n) (line n)) in
+      rw (grows) (omega arith)
+    where
+      turned : (x y z : ℕ) → x * y * z ≡ y * z * x
+      turned x y z = simp (mul-comm, mul-left-comm)
+
+  onward : (end : ℕ) → begin ≤ end → ((k : ℕ) → begin ≤ k → k < end → u k ≡ p) → added end * p + full begin ≡ full end
+  onward end h =
+      le-ind (λ n. ((k : ℕ) → begin ≤ k → k < n → u k ≡ p) → added n * p + full begin ≡ full n)
+      (λ s. let none : added begin ≡ 0 = omega arith in rw none (omega arith))
+      (λ n l ih s. more n l (ih (λ k b e. s k b (omega arith))) (s n l (le-refl (suc n))))
+      end h
+
+-- the unit at a place, stretch by stretch
+module _ (u : Units) (k : ℕ) where
+  pub first-unit : k < u .first .end → unitAt u k ≡ u .first .unit
+  unfolding unitAt
+  first-unit h = rw (lt-ltb k (u .first .end) h)
+
+  pub second-unit : u .first .end ≤ k → k < u .second .end → unitAt u k ≡ u .second .unit
+  unfolding unitAt
+  second-unit l h = rw (le-ltb k (u .first .end) l, lt-ltb k (u .second .end) h)
+
+  pub third-unit : u .first .end ≤ k → u .second .end ≤ k → k < u .third .end → unitAt u k ≡ u .third .unit
+  unfolding unitAt
+  third-unit l m h = rw (le-ltb k (u .first .end) l, le-ltb k (u .second .end) m, lt-ltb k (u .third .end) h)
+
+  pub rest-unit : u .first .end ≤ k → u .second .end ≤ k → u .third .end ≤ k → unitAt u k ≡ u .rest
+  unfolding unitAt
+  rest-unit l m h = rw (le-ltb k (u .first .end) l, le-ltb k (u .second .end) m, le-ltb k (u .third .end) h)
+
+-- one stretch more brings the sum at full value to the stretch's end, and it passes no 96 bits
+module _ (u : Units) (weights row : List ℕ) (held : Held u weights) (small : Within 10000000 row) where
+  pub one-stretch-more :
+      (p begin end before after : ℕ) → begin ≤ end → end ≤ 471 → ((k : ℕ) → begin ≤ k → k < end → unitAt u k ≡ p) →
+      before ≡ weighted begin (valueOf u weights) (entryOf row) →
+      after ≡ (stretchSum weights row begin end * p + before) % 2 ^ 96 →
+      after ≡ weighted end (valueOf u weights) (entryOf row)
+  one-stretch-more p begin end before after b e same is now =
+      let most = le-trans (weighted-bound 10000000 end 471 (valueOf u weights) (entryOf row) small e) (mul-le-mul-left 10000000 (held .sum)) in
+      rw (now, is, onward p begin (unitAt u) (entryOf weights) (entryOf row) end b same) (mod-eq-of-lt (omega arith))

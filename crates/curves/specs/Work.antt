@@ -1,17 +1,24 @@
--- The sums of a row under any tables, as they are worked: no promise to a caller rests on the reading of this.
+-- The sums of a row as they are worked: no promise to a caller rests on the reading of this.
 use mathlib.Core.Path.{_≡_}
 use mathlib.Core.List.{List}
-use Prim.Native.Nat.{ℕ, _*_, _%_, _^_}
-use Rattle.exact.specs.Value.{short}
-use Rattle.mixing.specs.Sum.{weighted, entryOf}
-use Rattle.curves.specs.declared.weigh.Sums.{Sums}
+use Prim.Native.Nat.{ℕ, _*_, _-_, _/_, _%_, _^_, _≤_, _<_}
+use lib.ListN.{getD}
+use Rattle.grid.specs.Check.{Within}
+use Rattle.mixing.specs.Sum.{total, weighted, entryOf}
 
--- the sum of weight times power times row
-abbrev pub litSum : List ℕ → List ℕ → List ℕ → ℕ
-litSum weights powers row = weighted 471 (entryOf weights) (λ k. entryOf powers k * entryOf row k)
+-- the sum over the places from `begin` on, below `end`
+abbrev pub stretchSum : List ℕ → List ℕ → ℕ → ℕ → ℕ
+stretchSum weights row begin end = weighted end (entryOf weights) (entryOf row) - weighted begin (entryOf weights) (entryOf row)
 
--- the three, without what passes 96 bits
-pub record LitSumsBy (x̄ ȳ z̄ powers row : List ℕ) (sums : Sums) : Type 0 where
-  pub x : short (sums .x) ≡ litSum x̄ powers row % 2 ^ 96
-  pub y : short (sums .y) ≡ litSum ȳ powers row % 2 ^ 96
-  pub z : short (sums .z) ≡ litSum z̄ powers row % 2 ^ 96
+-- places of a table, and entries that add up to so little that a row's sum fits 64 bits
+pub record Stretched (begin end : ℕ) (weights : List ℕ) : Type 0 where
+  pub in-order : begin ≤ end
+  pub inside : end ≤ 471
+  pub few : total 471 (entryOf weights) ≤ 1000000000000
+
+-- power times row at each place is high · 2^21 + low, with low below 2^21, and both rows can be weighed
+pub record SplitOf (powers row high low : List ℕ) : Type 0 where
+  pub upper : (k : ℕ) → k < 471 → getD high k 0 ≡ getD powers k 0 * getD row k 0 / 2 ^ 21
+  pub lower : (k : ℕ) → k < 471 → getD low k 0 ≡ getD powers k 0 * getD row k 0 % 2 ^ 21
+  pub high-small : Within 10000000 high
+  pub low-small : Within 10000000 low

@@ -1,7 +1,10 @@
 // Weighted sums over the whole nanometres 360 to 830.
 use exact::digits::Short;
 use exact::digits::joined;
+use exact::digits::short_times_plus;
 use tables::Curve;
+use tables::units::Units;
+use tables::units::units_of;
 use tables::v_prime;
 use tables::x_bar;
 use tables::x_bar_10;
@@ -10,12 +13,14 @@ use tables::y_bar_10;
 use tables::z_bar;
 use tables::z_bar_10;
 ghost use mathlib.Core.Path.{_≡_};
+ghost use Prim.Native.Nat.{_+_, _*_, _%_, _^_};
 ghost use Rattle.exact.specs.Value.{short};
 ghost use Rattle.grid.specs.Check.{Within};
 ghost use Rattle.mixing.specs.Sum.{weighted, entryOf};
 ghost use Rattle.tables.specs.Curves.{weightOf};
-ghost use Rattle.tables.specs.Columns.{Halves};
+ghost use Rattle.tables.specs.Held.{valueOf, Held};
 ghost use Rattle.curves.specs.Observer.{curvesOf, RowSums};
+ghost use Rattle.curves.specs.Work.{stretchSum, Stretched};
 
 // An observer's three curves.
 pub struct ObserverCurves {
@@ -70,29 +75,66 @@ pub fn weigh(curve: Curve, row: &[u64; 471]) -> Short
     requires { ⌜ Within 10000000 (now row) ⌝ }
     ensures { λ r. ⌜ short r ≡ weighted 471 (weightOf curve) (entryOf (now (row .entry))) ⌝ }
 {
+    let units = units_of(curve);
     match curve {
-        Curve::XBar => sum(&x_bar(), row),
-        Curve::YBar => sum(&y_bar(), row),
-        Curve::ZBar => sum(&z_bar(), row),
-        Curve::XBar10 => sum(&x_bar_10(), row),
-        Curve::YBar10 => sum(&y_bar_10(), row),
-        Curve::ZBar10 => sum(&z_bar_10(), row),
-        Curve::VPrime => sum(&v_prime(), row),
+        Curve::XBar => sum(&x_bar(), units, row),
+        Curve::YBar => sum(&y_bar(), units, row),
+        Curve::ZBar => sum(&z_bar(), units, row),
+        Curve::XBar10 => sum(&x_bar_10(), units, row),
+        Curve::YBar10 => sum(&y_bar_10(), units, row),
+        Curve::ZBar10 => sum(&z_bar_10(), units, row),
+        Curve::VPrime => sum(&v_prime(), units, row),
     }
 }
 
-// The sum of weight times row. The weights are split at 2^32, and neither half's sum passes 64 bits.
-fn sum(weights: &[u64; 471], row: &[u64; 471]) -> Short
-    requires { ⌜ Halves (now weights) × Within 10000000 (now row) ⌝ }
-    ensures { λ r. ⌜ short r ≡ weighted 471 (entryOf (now (weights .entry))) (entryOf (now (row .entry))) ⌝ }
+// The sum of weight times row, stretch by stretch of the weights' units.
+fn sum(weights: &[u32; 471], units: Units, row: &[u64; 471]) -> Short
+    requires { ⌜ Held units (now weights) × Within 10000000 (now row) ⌝ }
+    ensures { λ r. ⌜ short r ≡ weighted 471 (valueOf units (now (weights .entry))) (entryOf (now (row .entry))) ⌝ }
 {
-    let mut high: u64 = 0;
-    let mut low: u64 = 0;
-    for k in 0..471 {
-        // Below 2^32 as it stands; the remainder says so to the compiler, which then takes several places at a time.
-        let t = row[k] % 4294967296;
-        high += weights[k] / 4294967296 * t;
-        low += weights[k] % 4294967296 * t;
+    let first = with_stretch(
+        joined(0, 0),
+        weights,
+        row,
+        0,
+        units.first.end,
+        units.first.unit,
+    );
+    let second = with_stretch(
+        first,
+        weights,
+        row,
+        units.first.end,
+        units.second.end,
+        units.second.unit,
+    );
+    let third = with_stretch(
+        second,
+        weights,
+        row,
+        units.second.end,
+        units.third.end,
+        units.third.unit,
+    );
+    with_stretch(third, weights, row, units.third.end, 471, units.rest)
+}
+
+// Adds the sum over the places from `begin` on, below `end`, which passes no 64 bits in its unit.
+fn with_stretch(
+    before: Short,
+    weights: &[u32; 471],
+    row: &[u64; 471],
+    begin: usize,
+    end: usize,
+    unit: u32,
+) -> Short
+    requires { ⌜ Stretched begin end (now weights) × Within 10000000 (now row) ⌝ }
+    ensures { λ r. ⌜ short r ≡ (stretchSum (now (weights .entry)) (now (row .entry)) begin end * unit + short before) % 2 ^ 96 ⌝ }
+{
+    let mut stretch: u64 = 0;
+    for k in begin..end {
+        // The row is below 2^32 as it stands; the remainder says so to the compiler, which then takes several places at a time.
+        stretch += weights[k] as u64 * (row[k] % 4294967296);
     }
-    joined(high, low)
+    short_times_plus(joined(0, stretch), unit, before)
 }

@@ -1,5 +1,4 @@
 -- Laws of panels.
-pub mod Filled
 pub mod Computed
 pub mod Surface
 pub mod Sized

@@ -15,19 +15,19 @@ use Rattle.tables.specs.declared.Illuminant.the-variants.{A, D65}
 use Rattle.tables.proofs.Largest.{at-most-largest}
 
 pub column : (c : Curve) → Column (table c) (tableSum c) (tableTop c)
-unfolding table total sumOf largest xBar yBar zBar xBar10 yBar10 zBar10 vPrime
-column XBar = record { entries = refl; adds-up = refl; largest-is = refl; halves = record { high = lit≤ tt; low = lit≤ tt } }
-column YBar = record { entries = refl; adds-up = refl; largest-is = refl; halves = record { high = lit≤ tt; low = lit≤ tt } }
-column ZBar = record { entries = refl; adds-up = refl; largest-is = refl; halves = record { high = lit≤ tt; low = lit≤ tt } }
-column XBar10 = record { entries = refl; adds-up = refl; largest-is = refl; halves = record { high = lit≤ tt; low = lit≤ tt } }
-column YBar10 = record { entries = refl; adds-up = refl; largest-is = refl; halves = record { high = lit≤ tt; low = lit≤ tt } }
-column ZBar10 = record { entries = refl; adds-up = refl; largest-is = refl; halves = record { high = lit≤ tt; low = lit≤ tt } }
-column VPrime = record { entries = refl; adds-up = refl; largest-is = refl; halves = record { high = lit≤ tt; low = lit≤ tt } }
+unfolding table sumOf largest xBar yBar zBar xBar10 yBar10 zBar10 vPrime
+column XBar = record { entries = refl; adds-up = refl; largest-is = refl }
+column YBar = record { entries = refl; adds-up = refl; largest-is = refl }
+column ZBar = record { entries = refl; adds-up = refl; largest-is = refl }
+column XBar10 = record { entries = refl; adds-up = refl; largest-is = refl }
+column YBar10 = record { entries = refl; adds-up = refl; largest-is = refl }
+column ZBar10 = record { entries = refl; adds-up = refl; largest-is = refl }
+column VPrime = record { entries = refl; adds-up = refl; largest-is = refl }
 
 pub powers-column : (i : Illuminant) → Column (powers i) (powersSum i) (powersTop i)
-unfolding powers total sumOf largest illuminantA illuminantD65
-powers-column A = record { entries = refl; adds-up = refl; largest-is = refl; halves = record { high = lit≤ tt; low = lit≤ tt } }
-powers-column D65 = record { entries = refl; adds-up = refl; largest-is = refl; halves = record { high = lit≤ tt; low = lit≤ tt } }
+unfolding powers sumOf largest illuminantA illuminantD65
+powers-column A = record { entries = refl; adds-up = refl; largest-is = refl }
+powers-column D65 = record { entries = refl; adds-up = refl; largest-is = refl }
 
 -- no power is above 26,160,200, the largest of both illuminants
 pub power-bound : (i : Illuminant) (k : ℕ) → powerOf i k ≤ 26160200

@@ -2,4 +2,5 @@
 pub mod Largest
 pub mod Columns
 pub mod Sums
+pub mod Held
 pub mod White

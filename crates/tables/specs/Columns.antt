@@ -1,9 +1,9 @@
--- What is computed over a whole table: its length, its sum, its largest entry and the halves of its entries.
+-- What is computed over a whole table: its length, its sum and its largest entry.
 use mathlib.Core.Path.{_≡_}
 use mathlib.Core.List.{List, [], _∷_}
-use Prim.Native.Nat.{ℕ, _/_, _%_, _^_, _≤_, max}
-use lib.ListN.{length, getD}
-use Rattle.mixing.specs.Sum.{total, sumOf}
+use Prim.Native.Nat.{ℕ, max}
+use lib.ListN.{length}
+use Rattle.mixing.specs.Sum.{sumOf}
 use Rattle.tables.specs.declared.Curve.{Curve}
 use Rattle.tables.specs.declared.Curve.the-variants.{XBar, YBar, ZBar, XBar10, YBar10, ZBar10, VPrime}
 use Rattle.tables.specs.declared.Illuminant.{Illuminant}
@@ -14,17 +14,11 @@ unfoldable pub largest : List ℕ → ℕ
 largest [] = 0
 largest (x ∷ xs) = max x (largest xs)
 
--- the halves of a table's entries, each added up, are so small that a row's sums fit 64 bits
-pub record Halves (weights : List ℕ) : Type 0 where
-  pub high : total 471 (λ k. getD weights k 0 / 2 ^ 32) ≤ 1000000000000
-  pub low : total 471 (λ k. getD weights k 0 % 2 ^ 32) ≤ 1000000000000
-
--- 471 entries that add up to `sum`, of which `top` is the largest, and whose halves add up to little enough
+-- 471 entries that add up to `sum`, and of which `top` is the largest
 pub record Column (xs : List ℕ) (sum top : ℕ) : Type 0 where
   pub entries : length xs ≡ 471
   pub adds-up : sumOf xs ≡ sum
   pub largest-is : largest xs ≡ top
-  pub halves : Halves xs
 
 abbrev pub tableSum : Curve → ℕ
 tableSum XBar = 1068654694895950

@@ -2,4 +2,5 @@
 pub mod Tables
 pub mod Curves
 pub mod Columns
+pub mod Held
 pub mod Promises

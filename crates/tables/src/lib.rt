@@ -2,6 +2,7 @@
 // each has a function of its own, since one match over the numbers would look up every entry by the curve.
 mod numbers;
 pub mod promises;
+pub mod units;
 
 use crate::numbers::ILLUMINANT_A;
 use crate::numbers::ILLUMINANT_D65;
@@ -13,8 +14,10 @@ use crate::numbers::Y_BAR_10;
 use crate::numbers::Z_BAR;
 use crate::numbers::Z_BAR_10;
 ghost use mathlib.Core.Path.{_≡_};
-ghost use Rattle.tables.specs.Tables.{xBar, yBar, zBar, xBar10, yBar10, zBar10, vPrime, illuminantA, illuminantD65};
+ghost use Rattle.tables.specs.Tables.{illuminantA, illuminantD65};
 ghost use Rattle.tables.specs.Curves.{powers};
+ghost use Rattle.tables.specs.Held.{inUnits};
+ghost use Rattle.tables.specs.declared.Curve.the-variants.{XBar, YBar, ZBar, XBar10, YBar10, ZBar10, VPrime};
 
 // What light is weighed by: V is ȳ, and V10 is ȳ10.
 pub enum Curve {
@@ -34,7 +37,7 @@ pub enum Illuminant {
 }
 
 // The whole table of an illuminant.
-pub fn powers_of(illuminant: Illuminant) -> [u64; 471]
+pub fn powers_of(illuminant: Illuminant) -> [u32; 471]
     ensures { λ r. ⌜ r ≡ powers illuminant ⌝ }
 {
     match illuminant {
@@ -43,55 +46,55 @@ pub fn powers_of(illuminant: Illuminant) -> [u64; 471]
     }
 }
 
-pub fn x_bar() -> [u64; 471]
-    ensures { λ r. ⌜ r ≡ xBar ⌝ }
+pub fn x_bar() -> [u32; 471]
+    ensures { λ r. ⌜ r ≡ inUnits XBar ⌝ }
 {
     X_BAR
 }
 
-pub fn y_bar() -> [u64; 471]
-    ensures { λ r. ⌜ r ≡ yBar ⌝ }
+pub fn y_bar() -> [u32; 471]
+    ensures { λ r. ⌜ r ≡ inUnits YBar ⌝ }
 {
     Y_BAR
 }
 
-pub fn z_bar() -> [u64; 471]
-    ensures { λ r. ⌜ r ≡ zBar ⌝ }
+pub fn z_bar() -> [u32; 471]
+    ensures { λ r. ⌜ r ≡ inUnits ZBar ⌝ }
 {
     Z_BAR
 }
 
-pub fn x_bar_10() -> [u64; 471]
-    ensures { λ r. ⌜ r ≡ xBar10 ⌝ }
+pub fn x_bar_10() -> [u32; 471]
+    ensures { λ r. ⌜ r ≡ inUnits XBar10 ⌝ }
 {
     X_BAR_10
 }
 
-pub fn y_bar_10() -> [u64; 471]
-    ensures { λ r. ⌜ r ≡ yBar10 ⌝ }
+pub fn y_bar_10() -> [u32; 471]
+    ensures { λ r. ⌜ r ≡ inUnits YBar10 ⌝ }
 {
     Y_BAR_10
 }
 
-pub fn z_bar_10() -> [u64; 471]
-    ensures { λ r. ⌜ r ≡ zBar10 ⌝ }
+pub fn z_bar_10() -> [u32; 471]
+    ensures { λ r. ⌜ r ≡ inUnits ZBar10 ⌝ }
 {
     Z_BAR_10
 }
 
-pub fn v_prime() -> [u64; 471]
-    ensures { λ r. ⌜ r ≡ vPrime ⌝ }
+pub fn v_prime() -> [u32; 471]
+    ensures { λ r. ⌜ r ≡ inUnits VPrime ⌝ }
 {
     V_PRIME
 }
 
-fn illuminant_a() -> [u64; 471]
+fn illuminant_a() -> [u32; 471]
     ensures { λ r. ⌜ r ≡ illuminantA ⌝ }
 {
     ILLUMINANT_A
 }
 
-fn illuminant_d65() -> [u64; 471]
+fn illuminant_d65() -> [u32; 471]
     ensures { λ r. ⌜ r ≡ illuminantD65 ⌝ }
 {
     ILLUMINANT_D65

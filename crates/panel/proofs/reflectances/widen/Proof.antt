@@ -5,7 +5,7 @@ use borrow.Author.Needs.{needs}
 use native.Mathlib.Omega.{arith}
 use lib.ListN.{length, getD, take}
 use lib.Seq.{ext-getD, getD-take, length-take-le}
-use Rattle.panel.proofs.Filled.{FilledTo, fill-more}
+use Rattle.curves.proofs.Filled.{FilledTo, fill-more}
 use Rattle.panel.proofs.reflectances.widen.Statement.{statement}
 use Rattle.panel.proofs.reflectances.widen.Tie as tie
 

@@ -1,0 +1,70 @@
+-- What the code holds of a curve's table loses no digit, and a row can be summed by it.
+use mathlib.Core.Path.{_≡_, refl, sym, _∙_, ap}
+use mathlib.Core.List.{List, [], _∷_}
+use Prim.Native.Nat.{ℕ, zero, suc, _+_, _*_, _≤_}
+use native.Mathlib.Nat.{zero-add, mul-zero}
+use native.Mathlib.Omega.{arith}
+use lib.Dec.{lit≤}
+use lib.ListN.{getD}
+use Rattle.mixing.specs.Sum.{total, entryOf}
+use Rattle.mixing.proofs.Sum.{total-ext}
+use Rattle.tables.specs.Tables.{xBar, yBar, zBar, xBar10, yBar10, zBar10, vPrime}
+use Rattle.tables.specs.Curves.{table, weightOf}
+use Rattle.tables.specs.Held.{units, unitAt, countedFrom, inUnits, valueOf, Held}
+use Rattle.tables.specs.declared.Curve.{Curve}
+use Rattle.tables.specs.declared.Curve.the-variants.{XBar, YBar, ZBar, XBar10, YBar10, ZBar10, VPrime}
+use Rattle.tables.specs.declared.units.Units.{Units}
+use Rattle.tables.proofs.Sums.{curve-sum}
+
+-- a list from place k on, each entry at its full value
+unfoldable valuesFrom : ℕ → Units → List ℕ → List ℕ
+valuesFrom k u [] = []
+valuesFrom k u (x ∷ xs) = unitAt u k * x ∷ valuesFrom (suc k) u xs
+
+value-at : (j k : ℕ) (u : Units) (xs : List ℕ) → getD (valuesFrom j u xs) k 0 ≡ unitAt u (j + k) * getD xs k 0
+unfolding valuesFrom
+value-at j k u [] = sym (mul-zero (unitAt u (j + k)))
+value-at j zero u (x ∷ xs) = ap (λ q. unitAt u q * x) (omega arith)
+value-at j (suc k) u (x ∷ xs) = value-at (suc j) k u xs ∙ ap (λ q. unitAt u q * getD xs k 0) (omega arith)
+
+no-digit-lost : (c : Curve) → valuesFrom 0 (units c) (inUnits c) ≡ table c
+unfolding valuesFrom inUnits countedFrom unitAt table xBar yBar zBar xBar10 yBar10 zBar10 vPrime
+no-digit-lost XBar = refl
+no-digit-lost YBar = refl
+no-digit-lost ZBar = refl
+no-digit-lost XBar10 = refl
+no-digit-lost YBar10 = refl
+no-digit-lost ZBar10 = refl
+no-digit-lost VPrime = refl
+
+pub weighs : (c : Curve) (k : ℕ) → valueOf (units c) (inUnits c) k ≡ weightOf c k
+weighs c k = sym (rw (zero-add k) at (value-at 0 k (units c) (inUnits c))) ∙ ap (λ (xs : List ℕ). getD xs k 0) (no-digit-lost c)
+
+few : (c : Curve) → total 471 (entryOf (inUnits c)) ≤ 1000000000000
+unfolding total inUnits countedFrom unitAt table xBar yBar zBar xBar10 yBar10 zBar10 vPrime
+few XBar = lit≤ tt
+few YBar = lit≤ tt
+few ZBar = lit≤ tt
+few XBar10 = lit≤ tt
+few YBar10 = lit≤ tt
+few ZBar10 = lit≤ tt
+few VPrime = lit≤ tt
+
+in-order : (c : Curve) → (units c .first .end ≤ units c .second .end) × (units c .second .end ≤ units c .third .end) × (units c .third .end ≤ 471)
+in-order XBar = (lit≤ tt, lit≤ tt, lit≤ tt)
+in-order YBar = (lit≤ tt, lit≤ tt, lit≤ tt)
+in-order ZBar = (lit≤ tt, lit≤ tt, lit≤ tt)
+in-order XBar10 = (lit≤ tt, lit≤ tt, lit≤ tt)
+in-order YBar10 = (lit≤ tt, lit≤ tt, lit≤ tt)
+in-order ZBar10 = (lit≤ tt, lit≤ tt, lit≤ tt)
+in-order VPrime = (lit≤ tt, lit≤ tt, lit≤ tt)
+
+pub held : (c : Curve) → Held (units c) (inUnits c)
+held c =
+    record {
+      first-before = in-order c .0;
+      second-before = in-order c .1;
+      third-before = in-order c .2;
+      few = few c;
+      sum = rw (total-ext 471 (valueOf (units c) (inUnits c)) (weightOf c) (λ k h. weighs c k)) (curve-sum c);
+    }
