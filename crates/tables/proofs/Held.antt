@@ -5,15 +5,16 @@ use Prim.Native.Nat.{ℕ, zero, suc, _+_, _*_, _≤_}
 use native.Mathlib.Nat.{zero-add, mul-zero}
 use native.Mathlib.Omega.{arith}
 use lib.Dec.{lit≤}
-use lib.ListN.{getD}
-use Rattle.mixing.specs.Sum.{total, entryOf}
-use Rattle.mixing.proofs.Sum.{total-ext}
+use lib.ListN.{length, getD}
+use Rattle.mixing.specs.Sum.{total, sumOf, entryOf}
+use Rattle.mixing.proofs.Sum.{total-ext, total-list}
 use Rattle.tables.specs.Tables.{xBar, yBar, zBar, xBar10, yBar10, zBar10, vPrime}
 use Rattle.tables.specs.Curves.{table, weightOf}
 use Rattle.tables.specs.Held.{units, unitAt, countedFrom, inUnits, valueOf, Held}
 use Rattle.tables.specs.declared.Curve.{Curve}
 use Rattle.tables.specs.declared.Curve.the-variants.{XBar, YBar, ZBar, XBar10, YBar10, ZBar10, VPrime}
 use Rattle.tables.specs.declared.units.Units.{Units}
+use Rattle.tables.proofs.Columns.{column}
 use Rattle.tables.proofs.Sums.{curve-sum}
 
 -- a list from place k on, each entry at its full value
@@ -40,8 +41,13 @@ no-digit-lost VPrime = refl
 pub weighs : (c : Curve) (k : ℕ) → valueOf (units c) (inUnits c) k ≡ weightOf c k
 weighs c k = sym (rw (zero-add k) at (value-at 0 k (units c) (inUnits c))) ∙ ap (λ (xs : List ℕ). getD xs k 0) (no-digit-lost c)
 
-few : (c : Curve) → total 471 (entryOf (inUnits c)) ≤ 1000000000000
-unfolding total inUnits countedFrom unitAt table xBar yBar zBar xBar10 yBar10 zBar10 vPrime
+counted-length : (k : ℕ) (u : Units) (xs : List ℕ) → length (countedFrom k u xs) ≡ length xs
+unfolding countedFrom
+counted-length k u [] = refl
+counted-length k u (x ∷ xs) = ap suc (counted-length (suc k) u xs)
+
+few : (c : Curve) → sumOf (inUnits c) ≤ 1000000000000
+unfolding sumOf inUnits countedFrom unitAt table xBar yBar zBar xBar10 yBar10 zBar10 vPrime
 few XBar = lit≤ tt
 few YBar = lit≤ tt
 few ZBar = lit≤ tt
@@ -49,6 +55,12 @@ few XBar10 = lit≤ tt
 few YBar10 = lit≤ tt
 few ZBar10 = lit≤ tt
 few VPrime = lit≤ tt
+
+few-in-all : (c : Curve) → total 471 (entryOf (inUnits c)) ≤ 1000000000000
+unfolding inUnits
+few-in-all c =
+    let long = counted-length 0 (units c) (table c) ∙ column c .entries in
+    rw (rw long at (total-list (inUnits c))) (few c)
 
 in-order : (c : Curve) → (units c .first .end ≤ units c .second .end) × (units c .second .end ≤ units c .third .end) × (units c .third .end ≤ 471)
 in-order XBar = (lit≤ tt, lit≤ tt, lit≤ tt)
@@ -65,6 +77,6 @@ held c =
       first-before = in-order c .0;
       second-before = in-order c .1;
       third-before = in-order c .2;
-      few = few c;
+      few = few-in-all c;
       sum = rw (total-ext 471 (valueOf (units c) (inUnits c)) (weightOf c) (λ k h. weighs c k)) (curve-sum c);
     }

@@ -10,22 +10,24 @@ use Rattle.tables.specs.Curves.{table}
 use Rattle.spectrum.specs.Line.{T, lineAt, endRule, W}
 use Rattle.answers.specs.Worked.{readingFrom, xyzFrom, xyFrom}
 use Rattle.readings.specs.Readings.{illuminanceOf, xyzOf, xyOf}
-use Rattle.figures.specs.Asked.{answerOf}
-use Rattle.figures.specs.Slips.{filledDown}
+use Rattle.grid.specs.Said.{value}
+use Rattle.figures.specs.Asked.{Asked, answerOf}
+use Rattle.figures.specs.Slips.{filledDown, Apart}
 use Rattle.figures.proofs.promises.promise_slips.Statement.{statement}
 use Rattle.figures.proofs.promises.promise_slips.Tie as tie
 
-differ : {version ours : ℕ} {m n : ℕ} → version ≡ m → ours ≡ n → (m ≡ n → ⊥) → version ≡ ours → ⊥
-differ p q apart e = apart (sym p ∙ e ∙ q)
+-- the two numbers, each computed once
+apart : {version slip ours i : ℕ} {asked : Asked} → version ≡ slip → value (answerOf asked) i ≡ ours → (slip ≡ ours → ⊥) → Apart version slip asked i ours
+apart p q unlike = record { gives = p; is = q; not-ours = λ e. unlike (sym p ∙ e ∙ q) }
 
 returns : tie.Need-returns
 unfolding answerOf filledDown illuminanceOf xyzOf xyOf readingFrom xyzFrom xyFrom lightCheck gridCheck limitCheck W weighted total T lineAt endRule table xBar yBar zBar nearest
 returns c = record {
-  x-from-rounded = record { gives = refl; is = refl; not-ours = differ refl refl (λ e. omega arith) };
-  each-rounded = record { gives = refl; is = refl; not-ours = differ refl refl (λ e. omega arith) };
-  at-samples = record { gives = refl; is = refl; not-ours = differ refl refl (λ e. omega arith) };
-  divided-early = record { gives = refl; is = refl; not-ours = differ refl refl (λ e. omega arith) };
-  filled-down = record { gives = refl; is = refl; not-ours = differ refl refl (λ e. omega arith) };
+  x-from-rounded = apart refl refl (λ e. omega arith);
+  each-rounded = apart refl refl (λ e. omega arith);
+  at-samples = apart refl refl (λ e. omega arith);
+  divided-early = apart refl refl (λ e. omega arith);
+  filled-down = apart refl refl (λ e. omega arith);
 }
 
 pub promise-slips-spec : {M : Type 1} → statement M
