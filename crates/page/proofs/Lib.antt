@@ -4,4 +4,3 @@ pub mod Digits
 pub mod Room
 pub mod Small
 pub mod Length
-pub mod Ends

@@ -5,4 +5,3 @@ pub mod Report
 pub mod Answer
 pub mod Said
 pub mod Put
-pub mod Promises

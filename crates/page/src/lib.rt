@@ -9,7 +9,6 @@ use readings::figures::FiguresAnswer;
 use record::RecordRead;
 
 mod lines;
-pub mod promises;
 mod put;
 
 // What writing a report gives: the number of bytes written.

@@ -4,5 +4,3 @@ pub mod Surface
 pub mod Sized
 pub mod Weighed
 pub mod Worked
-pub mod Given
-pub mod Full

@@ -3,4 +3,3 @@ pub mod Panel
 pub mod Figures
 pub mod Sums
 pub mod Wide
-pub mod Promises

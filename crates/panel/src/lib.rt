@@ -1,7 +1,6 @@
 // Panel colour: X, Y, Z, the coordinates x and y, and the chart's point of a panel under an illuminant.
 pub mod figures;
 mod part;
-pub mod promises;
 mod reflectances;
 mod sums;
 mod white;

@@ -3,5 +3,3 @@ pub mod Small
 pub mod LightSums
 pub mod Part
 pub mod Together
-pub mod Instances
-pub mod Unlit

@@ -2,4 +2,3 @@
 pub mod Readings
 pub mod Colour
 pub mod Figures
-pub mod Promises

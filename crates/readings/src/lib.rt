@@ -1,7 +1,6 @@
 // Every reading of a light. The illuminances are here.
 pub mod colour;
 pub mod figures;
-pub mod promises;
 mod sums;
 
 use crate::sums::mesopic_weighed;

@@ -10,4 +10,3 @@ pub mod Refusals
 pub mod Accepted
 pub mod Reading
 pub mod SpectrumRead
-pub mod Round

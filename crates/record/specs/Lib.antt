@@ -4,4 +4,3 @@ pub mod Format
 pub mod Answer
 pub mod Said
 pub mod Leaf
-pub mod Promises

@@ -10,7 +10,6 @@ use grid::Refusal;
 mod body;
 mod head;
 mod pack;
-pub mod promises;
 mod triple;
 mod unpack;
 

@@ -1,0 +1,26 @@
+-- With no light where a curve has any weight, its sum is 0.
+use mathlib.Core.Path.{ap}
+use Rattle.tables.specs.declared.Curve.the-variants.{YBar, VPrime, YBar10}
+use Rattle.answers.specs.Said.{saidReading, saidXyz, saidXy, saidChart}
+use Rattle.readings.specs.Figures.{saidFigures}
+use Rattle.light_promises.proofs.Unlit.{zeros-accepted, zeros, no-illuminance, no-mesopic, no-xyz, no-xy, no-point, no-figures}
+use Rattle.light_promises.proofs.lights.promise_darkness.Statement.{statement}
+use Rattle.light_promises.proofs.lights.promise_darkness.Tie as tie
+
+returns : tie.Need-returns
+returns c =
+    record {
+      accepted = zeros-accepted;
+      zeros = zeros;
+      photopic = λ a s xs f u. ap saidReading (no-illuminance a s xs f YBar 683 u);
+      scotopic = λ a s xs f u. ap saidReading (no-illuminance a s xs f VPrime 1700 u);
+      photopic-10 = λ a s xs f u. ap saidReading (no-illuminance a s xs f YBar10 684 u);
+      mesopic = λ k a s xs h f u v. ap saidReading (no-mesopic a s xs f k h u v);
+      xyz = λ o a s xs e f u. ap saidXyz (no-xyz a s xs f o e u);
+      xy = λ o a s xs e f u. ap saidXy (no-xy a s xs f o e u);
+      chart = λ o a s xs e f u. ap saidChart (no-point a s xs f o e u);
+      figures = λ a s xs f u v. ap saidFigures (no-figures a s xs f u v);
+    }
+
+pub promise-darkness-spec : {M : Type 1} → statement M
+promise-darkness-spec = tie.close (tie.spec returns)

@@ -1,0 +1,21 @@
+-- Each sum is linear in the samples, so the laws of mixed light hold of each reading.
+use Rattle.tables.specs.declared.Curve.the-variants.{YBar, VPrime, YBar10}
+use Rattle.light_promises.proofs.Instances.{mixture-accepted, illuminance-unit, mesopic-unit, xyz-mixed, between, one-dark}
+use Rattle.light_promises.proofs.lights.promise_mixing.Statement.{statement}
+use Rattle.light_promises.proofs.lights.promise_mixing.Tie as tie
+
+returns : tie.Need-returns
+returns c =
+    record {
+      accepted = mixture-accepted;
+      photopic = illuminance-unit YBar 683;
+      scotopic = illuminance-unit VPrime 1700;
+      photopic-10 = illuminance-unit YBar10 684;
+      mesopic = mesopic-unit;
+      xyz = xyz-mixed;
+      between = between;
+      one-dark = one-dark;
+    }
+
+pub promise-mixing-spec : {M : Type 1} → statement M
+promise-mixing-spec = tie.close (tie.spec returns)

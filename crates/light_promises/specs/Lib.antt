@@ -1,0 +1,3 @@
+-- What is promised of lights and of panels.
+pub mod Lights
+pub mod Panels

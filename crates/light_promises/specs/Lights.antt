@@ -1,0 +1,121 @@
+-- What is promised of mixed light, of light in order, of darkness and of the mesopic reading by day, said of these readings.
+use mathlib.Core.Path.{_≡_}
+use mathlib.Core.Bool.{true}
+use mathlib.Core.List.{List, [], _∷_}
+use Prim.Native.Nat.{ℕ, _+_, _*_, _≤_}
+use lib.ListN.{length, replicate}
+use Rattle.grid.specs.Refusals.{DARK}
+use Rattle.grid.specs.declared.Check.the-variants.{Fine}
+use Rattle.grid.specs.Check.{Within, refusal, isObserver, gridCheck, lightCheck}
+use Rattle.mixing.specs.Mixture.{mix, Below}
+use Rattle.mixing.specs.Promises.{Between, Differ}
+use Rattle.tables.specs.declared.Curve.{Curve}
+use Rattle.tables.specs.declared.Curve.the-variants.{YBar, YBar10, VPrime}
+use Rattle.tables.specs.Curves.{weightOf}
+use Rattle.spectrum.specs.Line.{T}
+use Rattle.grid.specs.Said.{Said, value, given, refusedWith}
+use Rattle.answers.specs.Said.{saidReading, saidXyz, saidXy, saidChart}
+use Rattle.curves.specs.Observer.{curvesOf}
+use Rattle.readings.specs.Readings.{photopicOf, scotopicOf, photopic10Of, mesopicOf, xyzOf, xyOf, chartOf, figuresOf}
+use Rattle.readings.specs.Figures.{saidFigures}
+
+-- an answer by start, step and samples, as the paper's number, place and values
+abbrev pub Answer : Type 0
+Answer = ℕ → ℕ → List ℕ → Said
+
+-- two accepted spectra on one grid, whose samples added place by place stay within the limit
+pub record Mixable (a s : ℕ) (xs ys : List ℕ) : Type 0 where
+  pub first : lightCheck a s xs ≡ Fine
+  pub second : lightCheck a s ys ≡ Fine
+  pub one-grid : length xs ≡ length ys
+  pub within : Within 1000000 (mix xs ys)
+
+-- where all three answers are values, each value of the mixture differs from the sum of the two by at most one unit
+abbrev pub OneUnit : Answer → Type 0
+OneUnit answer =
+    (a s : ℕ) (xs ys : List ℕ) → Mixable a s xs ys → answer a s xs .number ≡ 0 → answer a s ys .number ≡ 0 →
+    answer a s (mix xs ys) .number ≡ 0 → (i : ℕ) →
+    Differ 1 (value (answer a s (mix xs ys)) i) (value (answer a s xs) i + value (answer a s ys) i)
+
+-- where no sample of one is above the other's at its place, no value is
+abbrev pub InOrder : Answer → Type 0
+InOrder answer =
+    (a s : ℕ) (xs ys : List ℕ) → lightCheck a s xs ≡ Fine → lightCheck a s ys ≡ Fine → length xs ≡ length ys → Below xs ys →
+    answer a s xs .number ≡ 0 → answer a s ys .number ≡ 0 → (i : ℕ) → value (answer a s xs) i ≤ value (answer a s ys) i
+
+-- where neither is dark, neither is the mixture, and each of its coordinates lies between the two
+abbrev pub BothLit : Answer → Type 0
+BothLit answer =
+    (a s : ℕ) (xs ys : List ℕ) → Mixable a s xs ys → answer a s xs .number ≡ 0 → answer a s ys .number ≡ 0 →
+    (answer a s (mix xs ys) .number ≡ 0)
+    × ((i : ℕ) → Between (value (answer a s xs) i) (value (answer a s ys) i) (value (answer a s (mix xs ys)) i))
+
+-- where exactly one is dark, the mixture has the other's
+abbrev pub OneDark : Answer → Type 0
+OneDark answer =
+    (a s : ℕ) (xs ys : List ℕ) → Mixable a s xs ys → answer a s xs .number ≡ DARK → answer a s ys .number ≡ 0 →
+    (answer a s (mix xs ys) ≡ answer a s ys) × (answer a s (mix ys xs) ≡ answer a s ys)
+
+pub record Mixing : Type 0 where
+  pub accepted : (a s : ℕ) (xs ys : List ℕ) → Mixable a s xs ys → lightCheck a s (mix xs ys) ≡ Fine
+  pub photopic : OneUnit (λ a s xs. saidReading (photopicOf a s xs))
+  pub scotopic : OneUnit (λ a s xs. saidReading (scotopicOf a s xs))
+  pub photopic-10 : OneUnit (λ a s xs. saidReading (photopic10Of a s xs))
+  pub mesopic : (k : ℕ) → OneUnit (λ a s xs. saidReading (mesopicOf k a s xs))
+  pub xyz : (o : ℕ) → OneUnit (λ a s xs. saidXyz (xyzOf o a s xs))
+  pub between : (o : ℕ) → BothLit (λ a s xs. saidXy (xyOf o a s xs))
+  pub one-dark : (o : ℕ) → OneDark (λ a s xs. saidXy (xyOf o a s xs))
+
+pub record Order : Type 0 where
+  pub photopic : InOrder (λ a s xs. saidReading (photopicOf a s xs))
+  pub scotopic : InOrder (λ a s xs. saidReading (scotopicOf a s xs))
+  pub photopic-10 : InOrder (λ a s xs. saidReading (photopic10Of a s xs))
+  pub mesopic : (k : ℕ) → InOrder (λ a s xs. saidReading (mesopicOf k a s xs))
+  pub xyz : (o : ℕ) → InOrder (λ a s xs. saidXyz (xyzOf o a s xs))
+
+-- no light where the curve has any weight
+abbrev pub Unlit : Curve → ℕ → ℕ → List ℕ → Type 0
+Unlit c a s xs = (k : ℕ) → weightOf c k * T a s xs (360 + k) ≡ 0
+
+-- and none where any of the observer's three has
+abbrev pub Colourless : ℕ → ℕ → ℕ → List ℕ → Type 0
+Colourless o a s xs =
+    Unlit (curvesOf o .x) a s xs × Unlit (curvesOf o .y) a s xs × Unlit (curvesOf o .z) a s xs
+
+-- one reading of zero; X, Y and Z of zero; a colour refused as dark
+abbrev pub nought : Said
+nought = given (0 ∷ []) []
+
+abbrev pub noughts : Said
+noughts = given (0 ∷ 0 ∷ 0 ∷ []) []
+
+abbrev pub dark : Said
+dark = refusedWith (refusal DARK 0)
+
+pub record Darkness : Type 0 where
+  -- a room with no light is accepted on every accepted grid, and has no light where any curve has weight
+  pub accepted : (a s n : ℕ) → gridCheck a s n ≡ Fine → lightCheck a s (replicate n 0) ≡ Fine
+  pub zeros : (c : Curve) (a s n : ℕ) → Unlit c a s (replicate n 0)
+  pub photopic : (a s : ℕ) (xs : List ℕ) → lightCheck a s xs ≡ Fine → Unlit YBar a s xs → saidReading (photopicOf a s xs) ≡ nought
+  pub scotopic : (a s : ℕ) (xs : List ℕ) → lightCheck a s xs ≡ Fine → Unlit VPrime a s xs → saidReading (scotopicOf a s xs) ≡ nought
+  pub photopic-10 :
+      (a s : ℕ) (xs : List ℕ) → lightCheck a s xs ≡ Fine → Unlit YBar10 a s xs → saidReading (photopic10Of a s xs) ≡ nought
+  pub mesopic :
+      (k a s : ℕ) (xs : List ℕ) → k ≤ 1000 → lightCheck a s xs ≡ Fine → Unlit YBar a s xs → Unlit VPrime a s xs →
+      saidReading (mesopicOf k a s xs) ≡ nought
+  pub xyz :
+      (o a s : ℕ) (xs : List ℕ) → isObserver o ≡ true → lightCheck a s xs ≡ Fine → Colourless o a s xs →
+      saidXyz (xyzOf o a s xs) ≡ noughts
+  pub xy :
+      (o a s : ℕ) (xs : List ℕ) → isObserver o ≡ true → lightCheck a s xs ≡ Fine → Colourless o a s xs → saidXy (xyOf o a s xs) ≡ dark
+  pub chart :
+      (o a s : ℕ) (xs : List ℕ) → isObserver o ≡ true → lightCheck a s xs ≡ Fine → Colourless o a s xs →
+      saidChart (chartOf o a s xs) ≡ dark
+  -- the figures in one call: five zeros, and 9 for x and y
+  pub figures :
+      (a s : ℕ) (xs : List ℕ) → lightCheck a s xs ≡ Fine → Colourless 2 a s xs → Unlit VPrime a s xs →
+      saidFigures (figuresOf a s xs) ≡ given (0 ∷ 0 ∷ 0 ∷ 0 ∷ 0 ∷ DARK ∷ 0 ∷ 0 ∷ []) []
+
+-- at k = 1000 the mesopic reading is the photopic one, refusals and all
+pub record AtThousand : Type 0 where
+  pub mesopic : (a s : ℕ) (xs : List ℕ) → saidReading (mesopicOf 1000 a s xs) ≡ saidReading (photopicOf a s xs)

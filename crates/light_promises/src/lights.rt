@@ -1,0 +1,18 @@
+// What is promised of a light's readings: how mixed light behaves, the order of light, darkness, and the mesopic reading by day.
+ghost use Rattle.light_promises.specs.Lights.{Mixing, Order, Darkness, AtThousand};
+
+pub fn promise_mixing()
+    ensures { λ _. ⌜ Mixing ⌝ }
+{}
+
+pub fn promise_order()
+    ensures { λ _. ⌜ Order ⌝ }
+{}
+
+pub fn promise_darkness()
+    ensures { λ _. ⌜ Darkness ⌝ }
+{}
+
+pub fn promise_at_thousand()
+    ensures { λ _. ⌜ AtThousand ⌝ }
+{}

@@ -1,0 +1,3 @@
+-- Laws of records that are written and read, and of a page's ends.
+pub mod Round
+pub mod Ends

@@ -1,0 +1,3 @@
+-- What is promised of records and of the page.
+pub mod Records
+pub mod Pages
