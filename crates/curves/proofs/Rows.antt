@@ -17,18 +17,11 @@ weighted-more : (k n : ℕ) (v t : ℕ → ℕ) → k ≤ n → weighted k v t �
 unfolding weighted
 weighted-more k n v t h = total-more k n (λ j. v j * t j) h
 
--- no entry is above the sum of all
-pub entry-most : (f : ℕ → ℕ) (k n : ℕ) → k < n → f k ≤ total n f
-unfolding total
-entry-most f k n h = let more = total-more (suc k) n f h in omega arith
-
 module _ (line : ℕ → ℕ) (small : (k : ℕ) → line k ≤ 10000000) (f : ℕ → ℕ) where
-  -- one place more, where t stands, of a stretch that begins where `before` is the sum
+  -- one place more, whose product is m, of a stretch that begins where `before` is the sum
   pub next :
-      (k before sum t : ℕ) → sum + before ≡ weighted k f line → t ≡ line k → sum + f k * t + before ≡ weighted (k + 1) f line
-  next k before sum t e is =
-      let m : f k * t ≡ f k * line k = ap (λ (x : ℕ). f k * x) is in
-      (let w = weighted-one k f line in omega arith)
+      (k before sum m : ℕ) → sum + before ≡ weighted k f line → m ≡ f k * line k → sum + m + before ≡ weighted (k + 1) f line
+  next k before sum m e is = let w = weighted-one k f line in omega arith
 
   -- weights that add up to at most 10^12 make a sum that fits 64 bits
   pub fits : total 471 f ≤ 1000000000000 → (k : ℕ) → k ≤ 471 → weighted k f line ≤ 10000000000000000000

@@ -10,10 +10,11 @@ use Rattle.mixing.specs.Sum.{total, weighted, entryOf}
 abbrev pub stretchSum : List ℕ → List ℕ → ℕ → ℕ → ℕ
 stretchSum weights row begin end = weighted end (entryOf weights) (entryOf row) - weighted begin (entryOf weights) (entryOf row)
 
--- places of a table, and entries that add up to so little that a row's sum fits 64 bits
+-- places of a table, whose entries fit 32 bits and add up to so little that a row's sum fits 64
 pub record Stretched (begin end : ℕ) (weights : List ℕ) : Type 0 where
   pub in-order : begin ≤ end
   pub inside : end ≤ 471
+  pub narrow : (k : ℕ) → entryOf weights k ≤ 4294967295
   pub few : total 471 (entryOf weights) ≤ 1000000000000
 
 -- power times row at each place is high · 2^21 + low, with low below 2^21, and both rows can be weighed

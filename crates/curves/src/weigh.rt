@@ -88,7 +88,7 @@ pub fn weigh(curve: Curve, row: &[u64; 471]) -> Short
 }
 
 // The sum of weight times row, stretch by stretch of the weights' units.
-fn sum(weights: &[u32; 471], units: Units, row: &[u64; 471]) -> Short
+fn sum(weights: &[u64; 471], units: Units, row: &[u64; 471]) -> Short
     requires { ⌜ Held units (now weights) × Within 10000000 (now row) ⌝ }
     ensures { λ r. ⌜ short r ≡ weighted 471 (valueOf units (now (weights .entry))) (entryOf (now (row .entry))) ⌝ }
 {
@@ -122,7 +122,7 @@ fn sum(weights: &[u32; 471], units: Units, row: &[u64; 471]) -> Short
 // Adds the sum over the places from `begin` on, below `end`, which passes no 64 bits in its unit.
 fn with_stretch(
     before: Short,
-    weights: &[u32; 471],
+    weights: &[u64; 471],
     row: &[u64; 471],
     begin: usize,
     end: usize,
@@ -133,8 +133,8 @@ fn with_stretch(
 {
     let mut stretch: u64 = 0;
     for k in begin..end {
-        // The row is below 2^32 as it stands; the remainder says so to the compiler, which then takes several places at a time.
-        stretch += weights[k] as u64 * (row[k] % 4294967296);
+        // Both are below 2^32 as they stand; the remainders say so to the compiler, which then takes several places at a time.
+        stretch += weights[k] % 4294967296 * (row[k] % 4294967296);
     }
     short_times_plus(joined(0, stretch), unit, before)
 }

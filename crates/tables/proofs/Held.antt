@@ -2,7 +2,7 @@
 use mathlib.Core.Path.{_≡_, refl, sym, _∙_, ap}
 use mathlib.Core.List.{List, [], _∷_}
 use Prim.Native.Nat.{ℕ, zero, suc, _+_, _*_, _≤_}
-use native.Mathlib.Nat.{zero-add, mul-zero}
+use native.Mathlib.Nat.{zero-add, mul-zero, le-trans}
 use native.Mathlib.Omega.{arith}
 use lib.Dec.{lit≤}
 use lib.ListN.{length, getD}
@@ -10,10 +10,12 @@ use Rattle.mixing.specs.Sum.{total, sumOf, entryOf}
 use Rattle.mixing.proofs.Sum.{total-ext, total-list}
 use Rattle.tables.specs.Tables.{xBar, yBar, zBar, xBar10, yBar10, zBar10, vPrime}
 use Rattle.tables.specs.Curves.{table, weightOf}
+use Rattle.tables.specs.Columns.{largest}
 use Rattle.tables.specs.Held.{units, unitAt, countedFrom, inUnits, valueOf, Held}
 use Rattle.tables.specs.declared.Curve.{Curve}
 use Rattle.tables.specs.declared.Curve.the-variants.{XBar, YBar, ZBar, XBar10, YBar10, ZBar10, VPrime}
 use Rattle.tables.specs.declared.units.Units.{Units}
+use Rattle.tables.proofs.Largest.{at-most-largest}
 use Rattle.tables.proofs.Columns.{column}
 use Rattle.tables.proofs.Sums.{curve-sum}
 
@@ -62,6 +64,16 @@ few-in-all c =
     let long = counted-length 0 (units c) (table c) ∙ column c .entries in
     rw (rw long at (total-list (inUnits c))) (few c)
 
+narrow : (c : Curve) → largest (inUnits c) ≤ 4294967295
+unfolding largest inUnits countedFrom unitAt table xBar yBar zBar xBar10 yBar10 zBar10 vPrime
+narrow XBar = lit≤ tt
+narrow YBar = lit≤ tt
+narrow ZBar = lit≤ tt
+narrow XBar10 = lit≤ tt
+narrow YBar10 = lit≤ tt
+narrow ZBar10 = lit≤ tt
+narrow VPrime = lit≤ tt
+
 in-order : (c : Curve) → (units c .first .end ≤ units c .second .end) × (units c .second .end ≤ units c .third .end) × (units c .third .end ≤ 471)
 in-order XBar = (lit≤ tt, lit≤ tt, lit≤ tt)
 in-order YBar = (lit≤ tt, lit≤ tt, lit≤ tt)
@@ -77,6 +89,7 @@ held c =
       first-before = in-order c .0;
       second-before = in-order c .1;
       third-before = in-order c .2;
+      narrow = λ k. le-trans (at-most-largest (inUnits c) k) (narrow c);
       few = few-in-all c;
       sum = rw (total-ext 471 (valueOf (units c) (inUnits c)) (weightOf c) (λ k h. weighs c k)) (curve-sum c);
     }

@@ -44,10 +44,12 @@ inUnits c = countedFrom 0 (units c) (table c)
 abbrev pub valueOf : Units → List ℕ → ℕ → ℕ
 valueOf u xs k = unitAt u k * entryOf xs k
 
--- what a row can be summed by: the ends are in order, and what is held adds up to little, as it stands and at its full value
+-- what a row can be summed by: the ends are in order, and what is held fits 32 bits at each place and adds up to little, as it
+-- stands and at its full value
 pub record Held (u : Units) (xs : List ℕ) : Type 0 where
   pub first-before : u .first .end ≤ u .second .end
   pub second-before : u .second .end ≤ u .third .end
   pub third-before : u .third .end ≤ 471
+  pub narrow : (k : ℕ) → entryOf xs k ≤ 4294967295
   pub few : total 471 (entryOf xs) ≤ 1000000000000
   pub sum : total 471 (valueOf u xs) ≤ 2000000000000000

@@ -46,43 +46,43 @@ pub fn powers_of(illuminant: Illuminant) -> [u32; 471]
     }
 }
 
-pub fn x_bar() -> [u32; 471]
+pub fn x_bar() -> [u64; 471]
     ensures { λ r. ⌜ r ≡ inUnits XBar ⌝ }
 {
     X_BAR
 }
 
-pub fn y_bar() -> [u32; 471]
+pub fn y_bar() -> [u64; 471]
     ensures { λ r. ⌜ r ≡ inUnits YBar ⌝ }
 {
     Y_BAR
 }
 
-pub fn z_bar() -> [u32; 471]
+pub fn z_bar() -> [u64; 471]
     ensures { λ r. ⌜ r ≡ inUnits ZBar ⌝ }
 {
     Z_BAR
 }
 
-pub fn x_bar_10() -> [u32; 471]
+pub fn x_bar_10() -> [u64; 471]
     ensures { λ r. ⌜ r ≡ inUnits XBar10 ⌝ }
 {
     X_BAR_10
 }
 
-pub fn y_bar_10() -> [u32; 471]
+pub fn y_bar_10() -> [u64; 471]
     ensures { λ r. ⌜ r ≡ inUnits YBar10 ⌝ }
 {
     Y_BAR_10
 }
 
-pub fn z_bar_10() -> [u32; 471]
+pub fn z_bar_10() -> [u64; 471]
     ensures { λ r. ⌜ r ≡ inUnits ZBar10 ⌝ }
 {
     Z_BAR_10
 }
 
-pub fn v_prime() -> [u32; 471]
+pub fn v_prime() -> [u64; 471]
     ensures { λ r. ⌜ r ≡ inUnits VPrime ⌝ }
 {
     V_PRIME

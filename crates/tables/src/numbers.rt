@@ -2,8 +2,8 @@
 use crate::units::Stretch;
 use crate::units::Units;
 
-// x̄ of the 1931 observer, at 10^13 to one.
-pub const X_BAR: [u32; 471] = [
+// x̄ of the 1931 observer, at 10^13 to one, each entry in the unit of its stretch.
+pub const X_BAR: [u64; 471] = [
     1299000,
     1458470,
     1638021,
@@ -490,8 +490,8 @@ pub const X_BAR_UNITS: Units = Units {
     rest: 1,
 };
 
-// ȳ of the 1931 observer, which is V, at 10^13 to one.
-pub const Y_BAR: [u32; 471] = [
+// ȳ of the 1931 observer, which is V, at 10^13 to one, each entry in the unit of its stretch.
+pub const Y_BAR: [u64; 471] = [
     3917000,
     4393581,
     4929604,
@@ -975,8 +975,8 @@ pub const Y_BAR_UNITS: Units = Units {
     rest: 1,
 };
 
-// z̄ of the 1931 observer, at 10^13 to one.
-pub const Z_BAR: [u32; 471] = [
+// z̄ of the 1931 observer, at 10^13 to one, each entry in the unit of its stretch.
+pub const Z_BAR: [u64; 471] = [
     6061000,
     6808792,
     7651456,
@@ -1463,8 +1463,8 @@ pub const Z_BAR_UNITS: Units = Units {
     rest: 1,
 };
 
-// x̄10 of the 1964 observer, at 10^13 to one.
-pub const X_BAR_10: [u32; 471] = [
+// x̄10 of the 1964 observer, at 10^13 to one, each entry in the unit of its stretch.
+pub const X_BAR_10: [u64; 471] = [
     122200,
     185138,
     278830,
@@ -1948,8 +1948,8 @@ pub const X_BAR_10_UNITS: Units = Units {
     rest: 1,
 };
 
-// ȳ10 of the 1964 observer, which is V10, at 10^13 to one.
-pub const Y_BAR_10: [u32; 471] = [
+// ȳ10 of the 1964 observer, which is V10, at 10^13 to one, each entry in the unit of its stretch.
+pub const Y_BAR_10: [u64; 471] = [
     13398,
     20294,
     30560,
@@ -2433,8 +2433,8 @@ pub const Y_BAR_10_UNITS: Units = Units {
     rest: 1,
 };
 
-// z̄10 of the 1964 observer, at 10^13 to one.
-pub const Z_BAR_10: [u32; 471] = [
+// z̄10 of the 1964 observer, at 10^13 to one, each entry in the unit of its stretch.
+pub const Z_BAR_10: [u64; 471] = [
     535027,
     810720,
     1221200,
@@ -2918,8 +2918,8 @@ pub const Z_BAR_10_UNITS: Units = Units {
     rest: 1,
 };
 
-// V′, which is 0 below 380 and above 780 nm, at 10^13 to one.
-pub const V_PRIME: [u32; 471] = [
+// V′, which is 0 below 380 and above 780 nm, at 10^13 to one, each entry in the unit of its stretch.
+pub const V_PRIME: [u64; 471] = [
     0,
     0,
     0,

@@ -1,5 +1,5 @@
 // The units in which the code holds a curve's table. Its places are cut into four stretches, and in each of them every entry is
-// a whole number of one power of ten, so that 32 bits hold it. A table that needs fewer stretches has empty ones at its end.
+// a whole number of one power of ten that fits 32 bits. A table that needs fewer stretches has empty ones at its end.
 use crate::Curve;
 use crate::numbers::V_PRIME_UNITS;
 use crate::numbers::X_BAR_10_UNITS;

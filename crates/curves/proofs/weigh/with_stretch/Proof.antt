@@ -1,5 +1,5 @@
 -- The loop's invariant: with the sum of the places before it, the stretch so far is the sum of all places so far.
-use mathlib.Core.Path.{_≡_, refl, _∙_, ap, subst}
+use mathlib.Core.Path.{_≡_, _∙_, ap, ap₂, subst}
 use mathlib.Core.List.{List}
 use Prim.Native.Nat.{ℕ, _+_, _*_, _-_, _%_, _^_, _≤_, _<_}
 use native.Mathlib.Nat.{zero-add, mod-eq-of-lt}
@@ -9,7 +9,7 @@ use lib.ListN.{getD}
 use Rattle.exact.specs.Value.{short}
 use Rattle.mixing.specs.Sum.{weighted, entryOf}
 use Rattle.curves.specs.Work.{stretchSum}
-use Rattle.curves.proofs.Rows.{next, fits, entry-most}
+use Rattle.curves.proofs.Rows.{next, fits}
 use Rattle.curves.proofs.weigh.with_stretch.Statement.{statement}
 use Rattle.curves.proofs.weigh.with_stretch.Tie as tie
 
@@ -35,17 +35,22 @@ module _ (c : tie.In-loop Inv-loop μ-loop) where
   abbrev k : ℕ
   k = c .before .loop .k
 
-  -- the remainder by 2^32 changes nothing
-  place : getD row k 0 % 4294967296 ≡ getD row k 0
-  place = let few : getD row k 0 < 4294967296 = (let h = begun .pre .1 k in omega arith) in mod-eq-of-lt few
+  abbrev worked : ℕ
+  worked = getD weights k 0 % 4294967296 * (getD row k 0 % 4294967296)
+
+  -- the remainders by 2^32 change nothing
+  product : worked ≡ getD weights k 0 * getD row k 0
+  product =
+      let a : getD weights k 0 < 4294967296 = (let h = begun .pre .0 .narrow k in omega arith) in
+      let b : getD row k 0 < 4294967296 = (let h = begun .pre .1 k in omega arith) in
+      ap₂ (λ (x y : ℕ). x * y) (mod-eq-of-lt a) (mod-eq-of-lt b)
 
   sum-next :
-      c .before .loop .stretch + getD weights k 0 * (getD row k 0 % 4294967296)
-      + weighted (begun .args .begin) (entryOf weights) (entryOf row)
+      c .before .loop .stretch + worked + weighted (begun .args .begin) (entryOf weights) (entryOf row)
       ≡ weighted (k + 1) (entryOf weights) (entryOf row)
-  sum-next = next (entryOf row) (begun .pre .1) (entryOf weights) k _ _ _ (c .before .loop .inv .2) place
+  sum-next = next (entryOf row) (begun .pre .1) (entryOf weights) k _ _ _ (c .before .loop .inv .2) product
 
-  sum-fits : c .before .loop .stretch + getD weights k 0 * (getD row k 0 % 4294967296) ≤ 10000000000000000000
+  sum-fits : c .before .loop .stretch + worked ≤ 10000000000000000000
   sum-fits =
       let inside = begun .pre .0 .inside in
       let most = fits (entryOf row) (begun .pre .1) (entryOf weights) (begun .pre .0 .few) (k + 1) (omega arith) in
@@ -59,12 +64,6 @@ mul-stretch c = search needs
 
 element-copy-out-stretch : tie.Need-element-copy-out-stretch Inv-loop μ-loop
 element-copy-out-stretch c = search needs
-
-cast-stretch : tie.Need-cast-stretch Inv-loop μ-loop
-cast-stretch c =
-    let t = c .before in
-    let weighed = begun t .pre .0 in
-    omega (arith, entry-most (entryOf (weights t)) (k t) 471 (let inside = weighed .inside in omega arith), weighed .few)
 
 mul-stretch-2 : tie.Need-mul-stretch-2 Inv-loop μ-loop
 mul-stretch-2 c = search needs
@@ -116,7 +115,6 @@ with-stretch-spec =
     loop-holds
     mul-stretch
     element-copy-out-stretch
-    cast-stretch
     mul-stretch-2
     element-copy-out-stretch-2
     mul-stretch-3
