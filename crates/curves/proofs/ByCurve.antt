@@ -1,4 +1,4 @@
--- A curve's table and units, as an arm of `weigh` has them: a row can be summed by them, and that is the curve's weighted sum.
+-- A curve's table and units, as an arm of `by_curve` has them: a row can be summed by them, and that is the curve's weighted sum.
 use mathlib.Core.Path.{_≡_, ap}
 use mathlib.Core.List.{List}
 use Prim.Native.Nat.{ℕ, _*_}

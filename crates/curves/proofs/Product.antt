@@ -1,19 +1,19 @@
--- Power times row, split at 2^21 into two rows: what the products are, and what the two rows' sums make together.
+-- Power times row, split at 2^21 into two rows: what the products are, and what the two rows make together.
 use mathlib.Core.Path.{_≡_, _∙_, ap}
+use mathlib.Core.Bool.{true}
 use mathlib.Core.List.{List}
-use Prim.Native.Nat.{ℕ, _+_, _*_, _/_, _%_, _^_, _≤_, _<_}
-use native.Mathlib.Nat.{mod-eq-of-lt, le-refl, le-trans, mul-le-mul, mul-le-mul-left, mul-comm, mul-left-comm}
+use Prim.Native.Nat.{ℕ, _*_, _%_, _≤_, _<_}
+use native.Mathlib.Nat.{mod-eq-of-lt, mul-le-mul, mul-comm, mul-left-comm}
 use native.Mathlib.Omega.{arith}
 use lib.ListN.{getD}
 use Rattle.grid.specs.Check.{Within}
 use Rattle.mixing.specs.Sum.{weighted, entryOf}
-use Rattle.mixing.proofs.Sum.{total-ext, weighted-ext, weighted-bound, line-split}
+use Rattle.mixing.proofs.Sum.{total-ext, weighted-ext}
 use Rattle.tables.specs.declared.Curve.{Curve}
 use Rattle.tables.specs.declared.Illuminant.{Illuminant}
 use Rattle.tables.specs.Curves.{powers, weightOf, powerOf}
-use Rattle.tables.proofs.Sums.{lit-total}
 use Rattle.curves.specs.Lit.{litBy}
-use Rattle.curves.specs.Work.{SplitOf}
+use Rattle.curves.specs.Work.{lineOf, SplitOf}
 
 -- the product at a place
 abbrev pub product : List ℕ → List ℕ → ℕ → ℕ
@@ -39,17 +39,9 @@ lit-weighed i c row =
     go : (x y z : ℕ) → x * (y * z) ≡ y * x * z
     go x y z = simp (mul-comm, mul-left-comm)
 
--- the sums of the two rows make the sum under the illuminant, which passes no 96 bits
+-- the two rows, weighed together, make the sum under the illuminant
 pub split-weighed :
-    (i : Illuminant) (row high low : List ℕ) → Within 100000 row → SplitOf (powers i) row high low → (c : Curve) →
-    (weighted 471 (weightOf c) (entryOf high) * 2 ^ 21 + weighted 471 (weightOf c) (entryOf low)) % 2 ^ 96
-    ≡ weighted 471 (litBy i c) (entryOf row)
-split-weighed i row high low q s c =
-    rw (
-      weighted-ext 471 (weightOf c) (entryOf high) (λ k. product (powers i) row k / 2 ^ 21) (s .upper),
-      weighted-ext 471 (weightOf c) (entryOf low) (λ k. product (powers i) row k % 2 ^ 21) (s .lower),
-      line-split (2 ^ 21) 471 (weightOf c) (product (powers i) row),
-      lit-weighed i c row,
-    )
-    (let most = le-trans (weighted-bound 100000 471 471 (litBy i c) (entryOf row) q (le-refl 471)) (mul-le-mul-left 100000 (lit-total i c)) in
-    mod-eq-of-lt (omega arith))
+    (i : Illuminant) (row high low : List ℕ) → SplitOf (powers i) row high low → (c : Curve) →
+    weighted 471 (weightOf c) (lineOf true high low) ≡ weighted 471 (litBy i c) (entryOf row)
+split-weighed i row high low s c =
+    weighted-ext 471 (weightOf c) (lineOf true high low) (product (powers i) row) (s .product) ∙ lit-weighed i c row

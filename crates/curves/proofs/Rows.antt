@@ -1,5 +1,6 @@
 -- Laws of a row's weighted sum, by weights that are held in units: one place more, its bound, and what a stretch of places adds.
-use mathlib.Core.Path.{_≡_, refl, _∙_, ap}
+use mathlib.Core.Path.{_≡_, _∙_, sym}
+use mathlib.Core.Bool.{true}
 use mathlib.Core.List.{List}
 use Prim.Native.Nat.{ℕ, suc, _+_, _*_, _-_, _%_, _^_, _≤_, _<_}
 use native.Mathlib.Nat.{mod-eq-of-lt, le-refl, le-trans, mul-le-mul-left, mul-comm, mul-left-comm, add-mul}
@@ -8,14 +9,10 @@ use native.Mathlib.Omega.{arith}
 use borrow.Author.Tests.{lt-ltb, le-ltb}
 use Rattle.grid.specs.Check.{Within}
 use Rattle.mixing.specs.Sum.{total, weighted, entryOf}
-use Rattle.mixing.proofs.Sum.{total-more, weighted-one, weighted-bound}
+use Rattle.mixing.proofs.Sum.{total-more, weighted-one, weighted-bound, weighted-joined}
 use Rattle.tables.specs.declared.units.Units.{Units}
 use Rattle.tables.specs.Held.{unitAt, valueOf, Held}
-use Rattle.curves.specs.Work.{stretchSum}
-
-weighted-more : (k n : ℕ) (v t : ℕ → ℕ) → k ≤ n → weighted k v t ≤ weighted n v t
-unfolding weighted
-weighted-more k n v t h = total-more k n (λ j. v j * t j) h
+use Rattle.curves.specs.Work.{lineOf, stretchSum}
 
 module _ (line : ℕ → ℕ) (small : (k : ℕ) → line k ≤ 10000000) (f : ℕ → ℕ) where
   -- one place more, whose product is m, of a stretch that begins where `before` is the sum
@@ -81,3 +78,17 @@ module _ (u : Units) (weights row : List ℕ) (held : Held u weights) (small : W
   one-stretch-more p begin end before after b e same is now =
       let most = le-trans (weighted-bound 10000000 end 471 (valueOf u weights) (entryOf row) small e) (mul-le-mul-left 10000000 (held .sum)) in
       rw (now, is, onward p begin (unitAt u) (entryOf weights) (entryOf row) end b same) (mod-eq-of-lt (omega arith))
+
+-- two rows' sums, the first counted in units of 2^21, make the sum of their line, which passes no 96 bits
+pub both-rows :
+    (u : Units) (weights high low : List ℕ) → Held u weights → Within 10000000 high → Within 10000000 low → (upper lower : ℕ) →
+    upper ≡ weighted 471 (valueOf u weights) (entryOf high) → lower ≡ weighted 471 (valueOf u weights) (entryOf low) →
+    (upper * 2 ^ 21 + lower) % 2 ^ 96 ≡ weighted 471 (valueOf u weights) (lineOf true high low)
+both-rows u weights high low held p q upper lower is-upper is-lower =
+    let a = most high p in
+    let b = most low q in
+    let few : upper * 2 ^ 21 + lower < 2 ^ 96 = omega arith in
+    mod-eq-of-lt few ∙ (rw (is-upper, is-lower) (sym (weighted-joined (2 ^ 21) 471 (valueOf u weights) (entryOf high) (entryOf low))))
+  where
+    most : (row : List ℕ) → Within 10000000 row → weighted 471 (valueOf u weights) (entryOf row) ≤ 20000000000000000000000
+    most row small = le-trans (weighted-bound 10000000 471 471 (valueOf u weights) (entryOf row) small (le-refl 471)) (mul-le-mul-left 10000000 (held .sum))

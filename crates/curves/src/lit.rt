@@ -1,7 +1,7 @@
 // The three sums of a row of reflected light under an illuminant.
 use crate::weigh::Sums;
-use crate::weigh::row_sums;
-use exact::digits::short_times_plus;
+use crate::weigh::by_curve;
+use crate::weigh::curves_of;
 use tables::Illuminant;
 use tables::powers_of;
 ghost use mathlib.Core.Path.{_≡_};
@@ -19,12 +19,14 @@ pub fn lit_sums(observer: u32, illuminant: Illuminant, row: &[u64; 471]) -> Sums
     let mut high = [0u64; 471];
     let mut low = [0u64; 471];
     split(&powers_of(illuminant), row, &mut high, &mut low);
-    let upper = row_sums(observer, &high);
-    let lower = row_sums(observer, &low);
+    let curves = curves_of(observer);
+    let x = curves.x;
+    let y = curves.y;
+    let z = curves.z;
     Sums {
-        x: short_times_plus(upper.x, 2097152, lower.x),
-        y: short_times_plus(upper.y, 2097152, lower.y),
-        z: short_times_plus(upper.z, 2097152, lower.z),
+        x: by_curve(x, true, &high, &low),
+        y: by_curve(y, true, &high, &low),
+        z: by_curve(z, true, &high, &low),
     }
 }
 

@@ -20,7 +20,7 @@ ghost use Rattle.mixing.specs.Sum.{weighted, entryOf};
 ghost use Rattle.tables.specs.Curves.{weightOf};
 ghost use Rattle.tables.specs.Held.{valueOf, Held};
 ghost use Rattle.curves.specs.Observer.{curvesOf, RowSums};
-ghost use Rattle.curves.specs.Work.{stretchSum, Stretched};
+ghost use Rattle.curves.specs.Work.{lineOf, stretchSum, Stretched};
 
 // An observer's three curves.
 pub struct ObserverCurves {
@@ -75,20 +75,45 @@ pub fn weigh(curve: Curve, row: &[u64; 471]) -> Short
     requires { ⌜ Within 10000000 (now row) ⌝ }
     ensures { λ r. ⌜ short r ≡ weighted 471 (weightOf curve) (entryOf (now (row .entry))) ⌝ }
 {
+    by_curve(curve, false, row, row)
+}
+
+// Of one row, `low`, or where it is split of high · 2^21 + low: a table is built once for both.
+pub fn by_curve(curve: Curve, split: bool, high: &[u64; 471], low: &[u64; 471]) -> Short
+    requires { ⌜ Within 10000000 (now high) × Within 10000000 (now low) ⌝ }
+    ensures { λ r. ⌜ short r ≡ weighted 471 (weightOf curve) (lineOf split (now (high .entry)) (now (low .entry))) ⌝ }
+{
     let units = units_of(curve);
     match curve {
-        Curve::XBar => sum(&x_bar(), units, row),
-        Curve::YBar => sum(&y_bar(), units, row),
-        Curve::ZBar => sum(&z_bar(), units, row),
-        Curve::XBar10 => sum(&x_bar_10(), units, row),
-        Curve::YBar10 => sum(&y_bar_10(), units, row),
-        Curve::ZBar10 => sum(&z_bar_10(), units, row),
-        Curve::VPrime => sum(&v_prime(), units, row),
+        Curve::XBar => sum(&x_bar(), units, split, high, low),
+        Curve::YBar => sum(&y_bar(), units, split, high, low),
+        Curve::ZBar => sum(&z_bar(), units, split, high, low),
+        Curve::XBar10 => sum(&x_bar_10(), units, split, high, low),
+        Curve::YBar10 => sum(&y_bar_10(), units, split, high, low),
+        Curve::ZBar10 => sum(&z_bar_10(), units, split, high, low),
+        Curve::VPrime => sum(&v_prime(), units, split, high, low),
     }
 }
 
+fn sum(
+    weights: &[u64; 471],
+    units: Units,
+    split: bool,
+    high: &[u64; 471],
+    low: &[u64; 471],
+) -> Short
+    requires { ⌜ Held units (now weights) × Within 10000000 (now high) × Within 10000000 (now low) ⌝ }
+    ensures { λ r. ⌜ short r ≡ weighted 471 (valueOf units (now (weights .entry))) (lineOf split (now (high .entry)) (now (low .entry))) ⌝ }
+{
+    let below = row_sum(weights, units, low);
+    if split {
+        return short_times_plus(row_sum(weights, units, high), 2097152, below);
+    }
+    below
+}
+
 // The sum of weight times row, stretch by stretch of the weights' units.
-fn sum(weights: &[u64; 471], units: Units, row: &[u64; 471]) -> Short
+fn row_sum(weights: &[u64; 471], units: Units, row: &[u64; 471]) -> Short
     requires { ⌜ Held units (now weights) × Within 10000000 (now row) ⌝ }
     ensures { λ r. ⌜ short r ≡ weighted 471 (valueOf units (now (weights .entry))) (entryOf (now (row .entry))) ⌝ }
 {

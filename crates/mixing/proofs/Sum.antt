@@ -1,8 +1,8 @@
 -- Laws of sums over places: equal and ordered terms, sums of sums, and a factor.
 use mathlib.Core.Path.{_≡_, refl, _∙_, sym, ap, ap₂}
 use mathlib.Core.List.{List, [], _∷_}
-use Prim.Native.Nat.{ℕ, zero, suc, _+_, _*_, _/_, _%_, _≤_, _<_}
-use native.Mathlib.Nat.{le-refl, le-trans, le-of-eq, add-le-add, mul-add, mul-zero, mul-comm, mul-le-mul-right, div-add-mod'}
+use Prim.Native.Nat.{ℕ, zero, suc, _+_, _*_, _≤_, _<_}
+use native.Mathlib.Nat.{le-refl, le-trans, le-of-eq, add-le-add, mul-add, add-mul, mul-zero, mul-comm, mul-assoc, mul-le-mul-right}
 use native.Mathlib.Numerals.{add-one}
 use native.Mathlib.Decide.{le-ind}
 use native.Mathlib.Omega.{arith}
@@ -78,14 +78,16 @@ pub weighted-one : (k : ℕ) (v t : ℕ → ℕ) → weighted (k + 1) v t ≡ we
 unfolding weighted total
 weighted-one k v t = rw add-one
 
--- weights that are split at a base B add up to the whole
-pub weighted-split :
-    (B n : ℕ) (v t : ℕ → ℕ) → weighted n (λ k. v k / B) t * B + weighted n (λ k. v k % B) t ≡ weighted n v t
+-- two lines, the first counted in units of B, are weighed together or apart
+pub weighted-joined :
+    (B n : ℕ) (v s t : ℕ → ℕ) → weighted n v (λ k. s k * B + t k) ≡ weighted n v s * B + weighted n v t
 unfolding weighted total
-weighted-split B zero v t = omega arith
-weighted-split B (suc n) v t =
-    let ih : weighted n (λ k. v k / B) t * B + weighted n (λ k. v k % B) t ≡ weighted n v t = weighted-split B n v t in
-    let e : (v n / B * B + v n % B) * t n ≡ v n * t n = ap (λ (x : ℕ). x * t n) (div-add-mod' (v n) B) in
+weighted-joined B zero v s t = omega arith
+weighted-joined B (suc n) v s t =
+    let ih : weighted n v (λ k. s k * B + t k) ≡ weighted n v s * B + weighted n v t = weighted-joined B n v s t in
+    let place = mul-add (v n) (s n * B) (t n) in
+    let unit = mul-assoc (v n) (s n) B in
+    let sum = add-mul (weighted n v s) (v n * s n) B in
     omega arith
 
 pub weighted-ext :
@@ -97,9 +99,3 @@ weighted-ext n v t u e = total-ext n (λ k. v k * t k) (λ k. v k * u k) (λ k h
 pub weighted-swap : (n : ℕ) (v t : ℕ → ℕ) → weighted n v t ≡ weighted n t v
 unfolding weighted
 weighted-swap n v t = total-ext n (λ k. v k * t k) (λ k. t k * v k) (λ k h. mul-comm (v k) (t k))
-
--- so a line that is split at a base B adds up to the whole too
-pub line-split :
-    (B n : ℕ) (v t : ℕ → ℕ) → weighted n v (λ k. t k / B) * B + weighted n v (λ k. t k % B) ≡ weighted n v t
-line-split B n v t =
-    rw (weighted-swap n v (λ k. t k / B), weighted-swap n v (λ k. t k % B), weighted-swap n v t) (weighted-split B n t v)

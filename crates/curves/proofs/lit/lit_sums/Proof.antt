@@ -1,8 +1,7 @@
--- The rows of the two parts are weighed by the observer's curves, and their sums joined.
-use mathlib.Core.Path.{refl}
+-- The rows of the two parts are weighed together, by each of the observer's curves.
+use mathlib.Core.Path.{refl, _∙_}
 use borrow.Author.Needs.{needs}
 use Rattle.tables.proofs.Columns.{power-bound}
-use Rattle.curves.specs.Observer.{curvesOf}
 use Rattle.curves.proofs.Product.{split-weighed}
 use Rattle.curves.proofs.lit.lit_sums.Statement.{statement}
 use Rattle.curves.proofs.lit.lit_sums.Tie as tie
@@ -18,37 +17,32 @@ split-requires c κs =
     let s = under c .before in
     (refl, refl, rw (under c .powers-of .ensures) (power-bound (s .args .illuminant)), s .pre)
 
-row-sums-requires : tie.Need-row-sums-requires
-row-sums-requires c κs = search needs
+curves-of-requires : tie.Need-curves-of-requires
+curves-of-requires c κs = search needs
 
-row-sums-requires-2 : tie.Need-row-sums-requires-2
-row-sums-requires-2 c κs = search needs
+by-curve-requires : tie.Need-by-curve-requires
+by-curve-requires c κs = search needs
 
-short-times-plus-requires : tie.Need-short-times-plus-requires
-short-times-plus-requires c κs = search needs
+by-curve-requires-2 : tie.Need-by-curve-requires-2
+by-curve-requires-2 c κs = search needs
 
-short-times-plus-requires-2 : tie.Need-short-times-plus-requires-2
-short-times-plus-requires-2 c κs = search needs
-
-short-times-plus-requires-3 : tie.Need-short-times-plus-requires-3
-short-times-plus-requires-3 c κs = search needs
+by-curve-requires-3 : tie.Need-by-curve-requires-3
+by-curve-requires-3 c κs = search needs
 
 returns : tie.Need-returns
 returns c =
-    let y = c .before in
-    let x = y .before in
-    let lower = x .before in
-    let upper = lower .before .before in
-    let parts = upper .before .before in
+    let y = c .before .before .before in
+    let x = y .before .before .before in
+    let curves = x .before .before .before in
+    let parts = curves .before in
     let given = under (parts .before) in
     let s = given .before in
-    let o = curvesOf (s .args .observer) in
-    let split = rw (given .powers-of .ensures) at (parts .split .ensures) in
-    let joined = split-weighed (s .args .illuminant) (s .args .row .now) _ _ (s .pre) split in
+    let its = curves .curves-of .ensures in
+    let lit = split-weighed (s .args .illuminant) (s .args .row .now) _ _ (rw (given .powers-of .ensures) at (parts .split .ensures)) in
     record {
-      x = rw (x .short-times-plus .ensures, upper .row-sums .ensures .x, lower .row-sums2 .ensures .x) (joined (o .x));
-      y = rw (y .short-times-plus2 .ensures, upper .row-sums .ensures .y, lower .row-sums2 .ensures .y) (joined (o .y));
-      z = rw (c .short-times-plus3 .ensures, upper .row-sums .ensures .z, lower .row-sums2 .ensures .z) (joined (o .z));
+      x = rw its at (x .by-curve .ensures) ∙ lit _;
+      y = rw its at (y .by-curve2 .ensures) ∙ lit _;
+      z = rw its at (c .by-curve3 .ensures) ∙ lit _;
     }
 
 pub lit-sums-spec : {M : Type 1} → statement M
@@ -57,9 +51,8 @@ lit-sums-spec =
     (tie.spec
     powers-of-requires
     split-requires
-    row-sums-requires
-    row-sums-requires-2
-    short-times-plus-requires
-    short-times-plus-requires-2
-    short-times-plus-requires-3
+    curves-of-requires
+    by-curve-requires
+    by-curve-requires-2
+    by-curve-requires-3
     returns)

@@ -100,8 +100,7 @@ returns c =
     let high = subst (λ k. FilledTo 471 (λ j. product ps row j / 2 ^ 21) (l .high) k) end (l .inv .1) in
     let low = subst (λ k. FilledTo 471 (λ j. product ps row j % 2 ^ 21) (l .low) k) end (l .inv .2) in
     record {
-      upper = high .filled;
-      lower = low .filled;
+      product = λ k h. let upper = high .filled k h in let lower = low .filled k h in omega arith;
       high-small = filled-within 471 10000000 _ (l .high) high (λ k. let h = product-small ps row (s .pre .2) (s .pre .3) k in omega arith);
       low-small = filled-within 471 10000000 _ (l .low) low (λ k. omega arith);
     }

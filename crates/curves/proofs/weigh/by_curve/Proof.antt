@@ -2,8 +2,8 @@
 use borrow.Author.Needs.{needs}
 use Rattle.tables.specs.declared.Curve.the-variants.{XBar, YBar, ZBar, XBar10, YBar10, ZBar10, VPrime}
 use Rattle.curves.proofs.ByCurve.{held-by, summed-by}
-use Rattle.curves.proofs.weigh.weigh.Statement.{statement}
-use Rattle.curves.proofs.weigh.weigh.Tie as tie
+use Rattle.curves.proofs.weigh.by_curve.Statement.{statement}
+use Rattle.curves.proofs.weigh.by_curve.Tie as tie
 
 units-of-requires : tie.Need-units-of-requires
 units-of-requires c κs = search needs
@@ -17,7 +17,7 @@ x-bar-requires c κs = search needs
 sum-requires : tie.Need-sum-requires
 sum-requires c κs =
     let told = c .before .before in
-    (held-by _ XBar _ _ (told .enum-told .given .1) (told .before .before .units-of .ensures) (c .before .x-bar .ensures), told .before .before .before .pre)
+    (held-by _ XBar _ _ (told .enum-told .given .1) (told .before .before .units-of .ensures) (c .before .x-bar .ensures), told .before .before .before .pre .0, told .before .before .before .pre .1)
 
 enum-told-2 : tie.Need-enum-told-2
 enum-told-2 c = search needs
@@ -28,7 +28,7 @@ y-bar-requires c κs = search needs
 sum-requires-2 : tie.Need-sum-requires-2
 sum-requires-2 c κs =
     let told = c .before .before in
-    (held-by _ YBar _ _ (told .enum-told2 .given .1) (told .before .before .units-of .ensures) (c .before .y-bar .ensures), told .before .before .before .pre)
+    (held-by _ YBar _ _ (told .enum-told2 .given .1) (told .before .before .units-of .ensures) (c .before .y-bar .ensures), told .before .before .before .pre .0, told .before .before .before .pre .1)
 
 enum-told-3 : tie.Need-enum-told-3
 enum-told-3 c = search needs
@@ -39,7 +39,7 @@ z-bar-requires c κs = search needs
 sum-requires-3 : tie.Need-sum-requires-3
 sum-requires-3 c κs =
     let told = c .before .before in
-    (held-by _ ZBar _ _ (told .enum-told3 .given .1) (told .before .before .units-of .ensures) (c .before .z-bar .ensures), told .before .before .before .pre)
+    (held-by _ ZBar _ _ (told .enum-told3 .given .1) (told .before .before .units-of .ensures) (c .before .z-bar .ensures), told .before .before .before .pre .0, told .before .before .before .pre .1)
 
 enum-told-4 : tie.Need-enum-told-4
 enum-told-4 c = search needs
@@ -50,7 +50,7 @@ x-bar-10-requires c κs = search needs
 sum-requires-4 : tie.Need-sum-requires-4
 sum-requires-4 c κs =
     let told = c .before .before in
-    (held-by _ XBar10 _ _ (told .enum-told4 .given .1) (told .before .before .units-of .ensures) (c .before .x-bar-10 .ensures), told .before .before .before .pre)
+    (held-by _ XBar10 _ _ (told .enum-told4 .given .1) (told .before .before .units-of .ensures) (c .before .x-bar-10 .ensures), told .before .before .before .pre .0, told .before .before .before .pre .1)
 
 enum-told-5 : tie.Need-enum-told-5
 enum-told-5 c = search needs
@@ -61,7 +61,7 @@ y-bar-10-requires c κs = search needs
 sum-requires-5 : tie.Need-sum-requires-5
 sum-requires-5 c κs =
     let told = c .before .before in
-    (held-by _ YBar10 _ _ (told .enum-told5 .given .1) (told .before .before .units-of .ensures) (c .before .y-bar-10 .ensures), told .before .before .before .pre)
+    (held-by _ YBar10 _ _ (told .enum-told5 .given .1) (told .before .before .units-of .ensures) (c .before .y-bar-10 .ensures), told .before .before .before .pre .0, told .before .before .before .pre .1)
 
 enum-told-6 : tie.Need-enum-told-6
 enum-told-6 c = search needs
@@ -72,7 +72,7 @@ z-bar-10-requires c κs = search needs
 sum-requires-6 : tie.Need-sum-requires-6
 sum-requires-6 c κs =
     let told = c .before .before in
-    (held-by _ ZBar10 _ _ (told .enum-told6 .given .1) (told .before .before .units-of .ensures) (c .before .z-bar-10 .ensures), told .before .before .before .pre)
+    (held-by _ ZBar10 _ _ (told .enum-told6 .given .1) (told .before .before .units-of .ensures) (c .before .z-bar-10 .ensures), told .before .before .before .pre .0, told .before .before .before .pre .1)
 
 enum-told-7 : tie.Need-enum-told-7
 enum-told-7 c = search needs
@@ -83,7 +83,7 @@ v-prime-requires c κs = search needs
 sum-requires-7 : tie.Need-sum-requires-7
 sum-requires-7 c κs =
     let told = c .before .before in
-    (held-by _ VPrime _ _ (told .enum-told7 .given .1) (told .before .before .units-of .ensures) (c .before .v-prime .ensures), told .before .before .before .pre)
+    (held-by _ VPrime _ _ (told .enum-told7 .given .1) (told .before .before .units-of .ensures) (c .before .v-prime .ensures), told .before .before .before .pre .0, told .before .before .before .pre .1)
 
 returns : tie.Need-returns
 returns c =
@@ -120,8 +120,8 @@ returns-7 c =
     let told = c .before .before .before in
     summed-by _ VPrime _ _ (told .enum-told7 .given .1) (told .before .before .units-of .ensures) (c .before .before .v-prime .ensures) _ _ (c .sum7 .ensures)
 
-pub weigh-spec : {M : Type 1} → statement M
-weigh-spec =
+pub by-curve-spec : {M : Type 1} → statement M
+by-curve-spec =
     tie.close
     (tie.spec
     units-of-requires

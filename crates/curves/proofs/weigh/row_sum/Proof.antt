@@ -1,0 +1,52 @@
+-- Stretch by stretch the sum comes to the end of the row, at the weights' full value.
+use Prim.Native.Nat.{zero-le}
+use native.Mathlib.Omega.{arith}
+use borrow.Author.Needs.{needs}
+use Rattle.mixing.specs.Sum.{total, weighted}
+use Rattle.curves.proofs.Rows.{first-unit, second-unit, third-unit, rest-unit, one-stretch-more}
+use Rattle.curves.proofs.weigh.row_sum.Statement.{statement}
+use Rattle.curves.proofs.weigh.row_sum.Tie as tie
+
+joined-requires : tie.Need-joined-requires
+joined-requires c κs = search needs
+
+with-stretch-requires : tie.Need-with-stretch-requires
+with-stretch-requires c κs = search needs
+
+with-stretch-requires-2 : tie.Need-with-stretch-requires-2
+with-stretch-requires-2 c κs = search needs
+
+with-stretch-requires-3 : tie.Need-with-stretch-requires-3
+with-stretch-requires-3 c κs = search needs
+
+with-stretch-requires-4 : tie.Need-with-stretch-requires-4
+with-stretch-requires-4 c κs = search needs
+
+returns : tie.Need-returns
+unfolding weighted total
+returns c =
+    let third = c .before in
+    let second = third .before in
+    let first = second .before in
+    let s = first .before .before in
+    let u = s .args .units in
+    let held = s .pre .0 in
+    let ends-1 = held .first-before in
+    let ends-2 = held .second-before in
+    let ends-3 = held .third-before in
+    let more = one-stretch-more u (s .args .weights .now) (s .args .row .now) held (s .pre .1) in
+    let to-first = more (u .first .unit) 0 (u .first .end) _ _ zero-le (omega arith) (λ k b h. first-unit u k h) (first .before .joined .ensures) (first .with-stretch .ensures) in
+    let to-second = more (u .second .unit) (u .first .end) (u .second .end) _ _ ends-1 (omega arith) (λ k b h. second-unit u k b h) to-first (second .with-stretch2 .ensures) in
+    let to-third = more (u .third .unit) (u .second .end) (u .third .end) _ _ ends-2 ends-3 (λ k b h. third-unit u k (omega arith) b h) to-second (third .with-stretch3 .ensures) in
+    more (u .rest) (u .third .end) 471 _ _ ends-3 (omega arith) (λ k b h. rest-unit u k (omega arith) (omega arith) b) to-third (c .with-stretch4 .ensures)
+
+pub row-sum-spec : {M : Type 1} → statement M
+row-sum-spec =
+    tie.close
+    (tie.spec
+    joined-requires
+    with-stretch-requires
+    with-stretch-requires-2
+    with-stretch-requires-3
+    with-stretch-requires-4
+    returns)
