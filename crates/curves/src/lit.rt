@@ -1,6 +1,6 @@
 // The three sums of a row of reflected light under an illuminant.
+use crate::summed::by_curve;
 use crate::weigh::Sums;
-use crate::weigh::by_curve;
 use crate::weigh::curves_of;
 use tables::Illuminant;
 use tables::powers_of;

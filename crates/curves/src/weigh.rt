@@ -1,26 +1,13 @@
 // Weighted sums over the whole nanometres 360 to 830.
+use crate::summed::by_curve;
 use exact::digits::Short;
-use exact::digits::joined;
-use exact::digits::short_times_plus;
 use tables::Curve;
-use tables::units::Units;
-use tables::units::units_of;
-use tables::v_prime;
-use tables::x_bar;
-use tables::x_bar_10;
-use tables::y_bar;
-use tables::y_bar_10;
-use tables::z_bar;
-use tables::z_bar_10;
 ghost use mathlib.Core.Path.{_≡_};
-ghost use Prim.Native.Nat.{_+_, _*_, _%_, _^_};
 ghost use Rattle.exact.specs.Value.{short};
 ghost use Rattle.grid.specs.Check.{Within};
 ghost use Rattle.mixing.specs.Sum.{weighted, entryOf};
 ghost use Rattle.tables.specs.Curves.{weightOf};
-ghost use Rattle.tables.specs.Held.{valueOf, Held};
 ghost use Rattle.curves.specs.Observer.{curvesOf, RowSums};
-ghost use Rattle.curves.specs.Work.{lineOf, stretchSum, Stretched};
 
 // An observer's three curves.
 pub struct ObserverCurves {
@@ -76,90 +63,4 @@ pub fn weigh(curve: Curve, row: &[u64; 471]) -> Short
     ensures { λ r. ⌜ short r ≡ weighted 471 (weightOf curve) (entryOf (now (row .entry))) ⌝ }
 {
     by_curve(curve, false, row, row)
-}
-
-// Of one row, `low`, or where it is split of high · 2^21 + low: a table is built once for both.
-pub fn by_curve(curve: Curve, split: bool, high: &[u64; 471], low: &[u64; 471]) -> Short
-    requires { ⌜ Within 10000000 (now high) × Within 10000000 (now low) ⌝ }
-    ensures { λ r. ⌜ short r ≡ weighted 471 (weightOf curve) (lineOf split (now (high .entry)) (now (low .entry))) ⌝ }
-{
-    let units = units_of(curve);
-    match curve {
-        Curve::XBar => sum(&x_bar(), units, split, high, low),
-        Curve::YBar => sum(&y_bar(), units, split, high, low),
-        Curve::ZBar => sum(&z_bar(), units, split, high, low),
-        Curve::XBar10 => sum(&x_bar_10(), units, split, high, low),
-        Curve::YBar10 => sum(&y_bar_10(), units, split, high, low),
-        Curve::ZBar10 => sum(&z_bar_10(), units, split, high, low),
-        Curve::VPrime => sum(&v_prime(), units, split, high, low),
-    }
-}
-
-fn sum(
-    weights: &[u64; 471],
-    units: Units,
-    split: bool,
-    high: &[u64; 471],
-    low: &[u64; 471],
-) -> Short
-    requires { ⌜ Held units (now weights) × Within 10000000 (now high) × Within 10000000 (now low) ⌝ }
-    ensures { λ r. ⌜ short r ≡ weighted 471 (valueOf units (now (weights .entry))) (lineOf split (now (high .entry)) (now (low .entry))) ⌝ }
-{
-    let below = row_sum(weights, units, low);
-    if split {
-        return short_times_plus(row_sum(weights, units, high), 2097152, below);
-    }
-    below
-}
-
-// The sum of weight times row, stretch by stretch of the weights' units.
-fn row_sum(weights: &[u64; 471], units: Units, row: &[u64; 471]) -> Short
-    requires { ⌜ Held units (now weights) × Within 10000000 (now row) ⌝ }
-    ensures { λ r. ⌜ short r ≡ weighted 471 (valueOf units (now (weights .entry))) (entryOf (now (row .entry))) ⌝ }
-{
-    let first = with_stretch(
-        joined(0, 0),
-        weights,
-        row,
-        0,
-        units.first.end,
-        units.first.unit,
-    );
-    let second = with_stretch(
-        first,
-        weights,
-        row,
-        units.first.end,
-        units.second.end,
-        units.second.unit,
-    );
-    let third = with_stretch(
-        second,
-        weights,
-        row,
-        units.second.end,
-        units.third.end,
-        units.third.unit,
-    );
-    with_stretch(third, weights, row, units.third.end, 471, units.rest)
-}
-
-// Adds the sum over the places from `begin` on, below `end`, which passes no 64 bits in its unit.
-fn with_stretch(
-    before: Short,
-    weights: &[u64; 471],
-    row: &[u64; 471],
-    begin: usize,
-    end: usize,
-    unit: u32,
-) -> Short
-    requires { ⌜ Stretched begin end (now weights) × Within 10000000 (now row) ⌝ }
-    ensures { λ r. ⌜ short r ≡ (stretchSum (now (weights .entry)) (now (row .entry)) begin end * unit + short before) % 2 ^ 96 ⌝ }
-{
-    let mut stretch: u64 = 0;
-    for k in begin..end {
-        // Both are below 2^32 as they stand; the remainders say so to the compiler, which then takes several places at a time.
-        stretch += weights[k] % 4294967296 * (row[k] % 4294967296);
-    }
-    short_times_plus(joined(0, stretch), unit, before)
 }

@@ -36,7 +36,6 @@ use Rattle.tables.proofs.z_bar_10.Reads as z-bar-10
 use Rattle.tables.proofs.v_prime.Reads as v-prime
 use Rattle.curves.proofs.weigh.curves_of.Reads as curves-of
 use Rattle.curves.proofs.weigh.weigh.Reads as weigh
-use Rattle.curves.proofs.weigh.by_curve.Reads as by-curve
 use Rattle.curves.proofs.weigh.row_sums.Reads as row-sums
 use Rattle.curves.proofs.lit.lit_sums.Reads as lit-sums
 use Rattle.spectrum.proofs.line.begin_at_360.Reads as begin-at-360
@@ -174,9 +173,6 @@ one-curves-of k a r q e f p s = same p s
 
 one-weigh : OneResult (Fitting ShortFits weigh.Post)
 one-weigh k a r q e f p s = same-short (p .0) (s .0) (same (p .1) (s .1))
-
-one-by-curve : OneResult (Fitting ShortFits by-curve.Post)
-one-by-curve k a r q e f p s = same-short (p .0) (s .0) (same (p .1) (s .1))
 
 one-row-sums : OneResult (Fitting SumsFit row-sums.Post)
 one-row-sums k a r q e f p s =

@@ -10,8 +10,8 @@ use Rattle.exact.specs.Value.{short}
 use Rattle.mixing.specs.Sum.{weighted, entryOf}
 use Rattle.curves.specs.Work.{stretchSum}
 use Rattle.curves.proofs.Rows.{next, fits}
-use Rattle.curves.proofs.weigh.with_stretch.Statement.{statement}
-use Rattle.curves.proofs.weigh.with_stretch.Tie as tie
+use Rattle.curves.proofs.summed.with_stretch.Statement.{statement}
+use Rattle.curves.proofs.summed.with_stretch.Tie as tie
 
 abbrev Inv-loop : tie.InvT-loop
 Inv-loop before weights row begin end unit stretch₀ k₀ stretch k =

@@ -4,8 +4,8 @@ use native.Mathlib.Omega.{arith}
 use borrow.Author.Needs.{needs}
 use Rattle.mixing.specs.Sum.{total, weighted}
 use Rattle.curves.proofs.Rows.{first-unit, second-unit, third-unit, rest-unit, one-stretch-more}
-use Rattle.curves.proofs.weigh.row_sum.Statement.{statement}
-use Rattle.curves.proofs.weigh.row_sum.Tie as tie
+use Rattle.curves.proofs.summed.row_sum.Statement.{statement}
+use Rattle.curves.proofs.summed.row_sum.Tie as tie
 
 joined-requires : tie.Need-joined-requires
 joined-requires c κs = search needs

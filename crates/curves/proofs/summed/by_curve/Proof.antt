@@ -2,8 +2,8 @@
 use borrow.Author.Needs.{needs}
 use Rattle.tables.specs.declared.Curve.the-variants.{XBar, YBar, ZBar, XBar10, YBar10, ZBar10, VPrime}
 use Rattle.curves.proofs.ByCurve.{held-by, summed-by}
-use Rattle.curves.proofs.weigh.by_curve.Statement.{statement}
-use Rattle.curves.proofs.weigh.by_curve.Tie as tie
+use Rattle.curves.proofs.summed.by_curve.Statement.{statement}
+use Rattle.curves.proofs.summed.by_curve.Tie as tie
 
 units-of-requires : tie.Need-units-of-requires
 units-of-requires c κs = search needs

@@ -1,8 +1,8 @@
 -- One row is its own line; the sums of two are joined.
 use borrow.Author.Needs.{needs}
 use Rattle.curves.proofs.Rows.{both-rows}
-use Rattle.curves.proofs.weigh.sum.Statement.{statement}
-use Rattle.curves.proofs.weigh.sum.Tie as tie
+use Rattle.curves.proofs.summed.sum.Statement.{statement}
+use Rattle.curves.proofs.summed.sum.Tie as tie
 
 row-sum-requires : tie.Need-row-sum-requires
 row-sum-requires c κs = search needs
