@@ -4,7 +4,13 @@ use exact::digits::joined;
 use exact::digits::short_times_plus;
 use tables::Curve;
 use tables::units::Units;
-use tables::units::units_of;
+use tables::units::V_PRIME_UNITS;
+use tables::units::X_BAR_10_UNITS;
+use tables::units::X_BAR_UNITS;
+use tables::units::Y_BAR_10_UNITS;
+use tables::units::Y_BAR_UNITS;
+use tables::units::Z_BAR_10_UNITS;
+use tables::units::Z_BAR_UNITS;
 use tables::v_prime;
 use tables::x_bar;
 use tables::x_bar_10;
@@ -26,15 +32,14 @@ pub fn by_curve(curve: Curve, split: bool, high: &[u64; 471], low: &[u64; 471]) 
     requires { ⌜ Within 10000000 (now high) × Within 10000000 (now low) ⌝ }
     ensures { λ r. ⌜ short r ≡ weighted 471 (weightOf curve) (lineOf split (now (high .entry)) (now (low .entry))) ⌝ }
 {
-    let units = units_of(curve);
     match curve {
-        Curve::XBar => sum(&x_bar(), units, split, high, low),
-        Curve::YBar => sum(&y_bar(), units, split, high, low),
-        Curve::ZBar => sum(&z_bar(), units, split, high, low),
-        Curve::XBar10 => sum(&x_bar_10(), units, split, high, low),
-        Curve::YBar10 => sum(&y_bar_10(), units, split, high, low),
-        Curve::ZBar10 => sum(&z_bar_10(), units, split, high, low),
-        Curve::VPrime => sum(&v_prime(), units, split, high, low),
+        Curve::XBar => sum(&x_bar(), X_BAR_UNITS, split, high, low),
+        Curve::YBar => sum(&y_bar(), Y_BAR_UNITS, split, high, low),
+        Curve::ZBar => sum(&z_bar(), Z_BAR_UNITS, split, high, low),
+        Curve::XBar10 => sum(&x_bar_10(), X_BAR_10_UNITS, split, high, low),
+        Curve::YBar10 => sum(&y_bar_10(), Y_BAR_10_UNITS, split, high, low),
+        Curve::ZBar10 => sum(&z_bar_10(), Z_BAR_10_UNITS, split, high, low),
+        Curve::VPrime => sum(&v_prime(), V_PRIME_UNITS, split, high, low),
     }
 }
 

@@ -26,7 +26,6 @@ use Rattle.grid.proofs.check_light.Reads as check-light
 use Rattle.grid.proofs.check_samples.Reads as check-samples
 use Rattle.grid.proofs.check_limit.Reads as check-limit
 use Rattle.tables.proofs.powers_of.Reads as powers-of
-use Rattle.tables.proofs.units.units_of.Reads as units-of
 use Rattle.tables.proofs.x_bar.Reads as x-bar
 use Rattle.tables.proofs.y_bar.Reads as y-bar
 use Rattle.tables.proofs.z_bar.Reads as z-bar
@@ -141,9 +140,6 @@ one-check-limit k a r q e f p s = same p s
 
 one-powers-of : OneResult powers-of.Post
 one-powers-of k a r q e f p s = same p s
-
-one-units-of : OneResult units-of.Post
-one-units-of k a r q e f p s = same p s
 
 one-x-bar : OneResult x-bar.Post
 one-x-bar k a r q e f p s = same p s

@@ -1,15 +1,12 @@
 // The units in which the code holds a curve's table. Its places are cut into four stretches, and in each of them every entry is
 // a whole number of one power of ten that fits 32 bits. A table that needs fewer stretches has empty ones at its end.
-use crate::Curve;
-use crate::numbers::V_PRIME_UNITS;
-use crate::numbers::X_BAR_10_UNITS;
-use crate::numbers::X_BAR_UNITS;
-use crate::numbers::Y_BAR_10_UNITS;
-use crate::numbers::Y_BAR_UNITS;
-use crate::numbers::Z_BAR_10_UNITS;
-use crate::numbers::Z_BAR_UNITS;
-ghost use mathlib.Core.Path.{_≡_};
-ghost use Rattle.tables.specs.Held.{units};
+pub use crate::numbers::V_PRIME_UNITS;
+pub use crate::numbers::X_BAR_10_UNITS;
+pub use crate::numbers::X_BAR_UNITS;
+pub use crate::numbers::Y_BAR_10_UNITS;
+pub use crate::numbers::Y_BAR_UNITS;
+pub use crate::numbers::Z_BAR_10_UNITS;
+pub use crate::numbers::Z_BAR_UNITS;
 
 // The places below its end, from where the stretch before it ends, and the unit of their entries.
 pub struct Stretch {
@@ -23,18 +20,4 @@ pub struct Units {
     pub second: Stretch,
     pub third: Stretch,
     pub rest: u32,
-}
-
-pub fn units_of(curve: Curve) -> Units
-    ensures { λ r. ⌜ r ≡ units curve ⌝ }
-{
-    match curve {
-        Curve::XBar => X_BAR_UNITS,
-        Curve::YBar => Y_BAR_UNITS,
-        Curve::ZBar => Z_BAR_UNITS,
-        Curve::XBar10 => X_BAR_10_UNITS,
-        Curve::YBar10 => Y_BAR_10_UNITS,
-        Curve::ZBar10 => Z_BAR_10_UNITS,
-        Curve::VPrime => V_PRIME_UNITS,
-    }
 }

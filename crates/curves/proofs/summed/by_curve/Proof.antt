@@ -1,12 +1,10 @@
 -- In each arm the table and the units are the curve's.
 use borrow.Author.Needs.{needs}
 use Rattle.tables.specs.declared.Curve.the-variants.{XBar, YBar, ZBar, XBar10, YBar10, ZBar10, VPrime}
-use Rattle.curves.proofs.ByCurve.{held-by, summed-by}
+use Rattle.tables.proofs.Held.{held}
+use Rattle.curves.proofs.ByCurve.{summed-by}
 use Rattle.curves.proofs.summed.by_curve.Statement.{statement}
 use Rattle.curves.proofs.summed.by_curve.Tie as tie
-
-units-of-requires : tie.Need-units-of-requires
-units-of-requires c κs = search needs
 
 enum-told : tie.Need-enum-told
 enum-told c = search needs
@@ -15,9 +13,7 @@ x-bar-requires : tie.Need-x-bar-requires
 x-bar-requires c κs = search needs
 
 sum-requires : tie.Need-sum-requires
-sum-requires c κs =
-    let told = c .before .before in
-    (held-by _ XBar _ _ (told .enum-told .given .1) (told .before .before .units-of .ensures) (c .before .x-bar .ensures), told .before .before .before .pre .0, told .before .before .before .pre .1)
+sum-requires c κs = let s = c .before .before .before .before in (rw (c .before .x-bar .ensures) (held XBar), s .pre .0, s .pre .1)
 
 enum-told-2 : tie.Need-enum-told-2
 enum-told-2 c = search needs
@@ -26,9 +22,7 @@ y-bar-requires : tie.Need-y-bar-requires
 y-bar-requires c κs = search needs
 
 sum-requires-2 : tie.Need-sum-requires-2
-sum-requires-2 c κs =
-    let told = c .before .before in
-    (held-by _ YBar _ _ (told .enum-told2 .given .1) (told .before .before .units-of .ensures) (c .before .y-bar .ensures), told .before .before .before .pre .0, told .before .before .before .pre .1)
+sum-requires-2 c κs = let s = c .before .before .before .before in (rw (c .before .y-bar .ensures) (held YBar), s .pre .0, s .pre .1)
 
 enum-told-3 : tie.Need-enum-told-3
 enum-told-3 c = search needs
@@ -37,9 +31,7 @@ z-bar-requires : tie.Need-z-bar-requires
 z-bar-requires c κs = search needs
 
 sum-requires-3 : tie.Need-sum-requires-3
-sum-requires-3 c κs =
-    let told = c .before .before in
-    (held-by _ ZBar _ _ (told .enum-told3 .given .1) (told .before .before .units-of .ensures) (c .before .z-bar .ensures), told .before .before .before .pre .0, told .before .before .before .pre .1)
+sum-requires-3 c κs = let s = c .before .before .before .before in (rw (c .before .z-bar .ensures) (held ZBar), s .pre .0, s .pre .1)
 
 enum-told-4 : tie.Need-enum-told-4
 enum-told-4 c = search needs
@@ -48,9 +40,7 @@ x-bar-10-requires : tie.Need-x-bar-10-requires
 x-bar-10-requires c κs = search needs
 
 sum-requires-4 : tie.Need-sum-requires-4
-sum-requires-4 c κs =
-    let told = c .before .before in
-    (held-by _ XBar10 _ _ (told .enum-told4 .given .1) (told .before .before .units-of .ensures) (c .before .x-bar-10 .ensures), told .before .before .before .pre .0, told .before .before .before .pre .1)
+sum-requires-4 c κs = let s = c .before .before .before .before in (rw (c .before .x-bar-10 .ensures) (held XBar10), s .pre .0, s .pre .1)
 
 enum-told-5 : tie.Need-enum-told-5
 enum-told-5 c = search needs
@@ -59,9 +49,7 @@ y-bar-10-requires : tie.Need-y-bar-10-requires
 y-bar-10-requires c κs = search needs
 
 sum-requires-5 : tie.Need-sum-requires-5
-sum-requires-5 c κs =
-    let told = c .before .before in
-    (held-by _ YBar10 _ _ (told .enum-told5 .given .1) (told .before .before .units-of .ensures) (c .before .y-bar-10 .ensures), told .before .before .before .pre .0, told .before .before .before .pre .1)
+sum-requires-5 c κs = let s = c .before .before .before .before in (rw (c .before .y-bar-10 .ensures) (held YBar10), s .pre .0, s .pre .1)
 
 enum-told-6 : tie.Need-enum-told-6
 enum-told-6 c = search needs
@@ -70,9 +58,7 @@ z-bar-10-requires : tie.Need-z-bar-10-requires
 z-bar-10-requires c κs = search needs
 
 sum-requires-6 : tie.Need-sum-requires-6
-sum-requires-6 c κs =
-    let told = c .before .before in
-    (held-by _ ZBar10 _ _ (told .enum-told6 .given .1) (told .before .before .units-of .ensures) (c .before .z-bar-10 .ensures), told .before .before .before .pre .0, told .before .before .before .pre .1)
+sum-requires-6 c κs = let s = c .before .before .before .before in (rw (c .before .z-bar-10 .ensures) (held ZBar10), s .pre .0, s .pre .1)
 
 enum-told-7 : tie.Need-enum-told-7
 enum-told-7 c = search needs
@@ -81,50 +67,33 @@ v-prime-requires : tie.Need-v-prime-requires
 v-prime-requires c κs = search needs
 
 sum-requires-7 : tie.Need-sum-requires-7
-sum-requires-7 c κs =
-    let told = c .before .before in
-    (held-by _ VPrime _ _ (told .enum-told7 .given .1) (told .before .before .units-of .ensures) (c .before .v-prime .ensures), told .before .before .before .pre .0, told .before .before .before .pre .1)
+sum-requires-7 c κs = let s = c .before .before .before .before in (rw (c .before .v-prime .ensures) (held VPrime), s .pre .0, s .pre .1)
 
 returns : tie.Need-returns
-returns c =
-    let told = c .before .before .before in
-    summed-by _ XBar _ _ (told .enum-told .given .1) (told .before .before .units-of .ensures) (c .before .before .x-bar .ensures) _ _ (c .sum .ensures)
+returns c = let lent = c .before .before in summed-by _ XBar _ _ _ (lent .before .enum-told .given .1) (lent .x-bar .ensures) (c .sum .ensures)
 
 returns-2 : tie.Need-returns-2
-returns-2 c =
-    let told = c .before .before .before in
-    summed-by _ YBar _ _ (told .enum-told2 .given .1) (told .before .before .units-of .ensures) (c .before .before .y-bar .ensures) _ _ (c .sum2 .ensures)
+returns-2 c = let lent = c .before .before in summed-by _ YBar _ _ _ (lent .before .enum-told2 .given .1) (lent .y-bar .ensures) (c .sum2 .ensures)
 
 returns-3 : tie.Need-returns-3
-returns-3 c =
-    let told = c .before .before .before in
-    summed-by _ ZBar _ _ (told .enum-told3 .given .1) (told .before .before .units-of .ensures) (c .before .before .z-bar .ensures) _ _ (c .sum3 .ensures)
+returns-3 c = let lent = c .before .before in summed-by _ ZBar _ _ _ (lent .before .enum-told3 .given .1) (lent .z-bar .ensures) (c .sum3 .ensures)
 
 returns-4 : tie.Need-returns-4
-returns-4 c =
-    let told = c .before .before .before in
-    summed-by _ XBar10 _ _ (told .enum-told4 .given .1) (told .before .before .units-of .ensures) (c .before .before .x-bar-10 .ensures) _ _ (c .sum4 .ensures)
+returns-4 c = let lent = c .before .before in summed-by _ XBar10 _ _ _ (lent .before .enum-told4 .given .1) (lent .x-bar-10 .ensures) (c .sum4 .ensures)
 
 returns-5 : tie.Need-returns-5
-returns-5 c =
-    let told = c .before .before .before in
-    summed-by _ YBar10 _ _ (told .enum-told5 .given .1) (told .before .before .units-of .ensures) (c .before .before .y-bar-10 .ensures) _ _ (c .sum5 .ensures)
+returns-5 c = let lent = c .before .before in summed-by _ YBar10 _ _ _ (lent .before .enum-told5 .given .1) (lent .y-bar-10 .ensures) (c .sum5 .ensures)
 
 returns-6 : tie.Need-returns-6
-returns-6 c =
-    let told = c .before .before .before in
-    summed-by _ ZBar10 _ _ (told .enum-told6 .given .1) (told .before .before .units-of .ensures) (c .before .before .z-bar-10 .ensures) _ _ (c .sum6 .ensures)
+returns-6 c = let lent = c .before .before in summed-by _ ZBar10 _ _ _ (lent .before .enum-told6 .given .1) (lent .z-bar-10 .ensures) (c .sum6 .ensures)
 
 returns-7 : tie.Need-returns-7
-returns-7 c =
-    let told = c .before .before .before in
-    summed-by _ VPrime _ _ (told .enum-told7 .given .1) (told .before .before .units-of .ensures) (c .before .before .v-prime .ensures) _ _ (c .sum7 .ensures)
+returns-7 c = let lent = c .before .before in summed-by _ VPrime _ _ _ (lent .before .enum-told7 .given .1) (lent .v-prime .ensures) (c .sum7 .ensures)
 
 pub by-curve-spec : {M : Type 1} → statement M
 by-curve-spec =
     tie.close
     (tie.spec
-    units-of-requires
     enum-told
     x-bar-requires
     sum-requires
