@@ -30,66 +30,47 @@ value-at j k u [] = sym (mul-zero (unitAt u (j + k)))
 value-at j zero u (x ∷ xs) = ap (λ q. unitAt u q * x) (omega arith)
 value-at j (suc k) u (x ∷ xs) = value-at (suc j) k u xs ∙ ap (λ q. unitAt u q * getD xs k 0) (omega arith)
 
-no-digit-lost : (c : Curve) → valuesFrom 0 (units c) (inUnits c) ≡ table c
-unfolding valuesFrom inUnits countedFrom unitAt table xBar yBar zBar xBar10 yBar10 zBar10 vPrime
-no-digit-lost XBar = refl
-no-digit-lost YBar = refl
-no-digit-lost ZBar = refl
-no-digit-lost XBar10 = refl
-no-digit-lost YBar10 = refl
-no-digit-lost ZBar10 = refl
-no-digit-lost VPrime = refl
-
-pub weighs : (c : Curve) (k : ℕ) → valueOf (units c) (inUnits c) k ≡ weightOf c k
-weighs c k = sym (rw (zero-add k) at (value-at 0 k (units c) (inUnits c))) ∙ ap (λ (xs : List ℕ). getD xs k 0) (no-digit-lost c)
-
 counted-length : (k : ℕ) (u : Units) (xs : List ℕ) → length (countedFrom k u xs) ≡ length xs
 unfolding countedFrom
 counted-length k u [] = refl
 counted-length k u (x ∷ xs) = ap suc (counted-length (suc k) u xs)
 
-few : (c : Curve) → sumOf (inUnits c) ≤ 1000000000000
-unfolding sumOf inUnits countedFrom unitAt table xBar yBar zBar xBar10 yBar10 zBar10 vPrime
-few XBar = lit≤ tt
-few YBar = lit≤ tt
-few ZBar = lit≤ tt
-few XBar10 = lit≤ tt
-few YBar10 = lit≤ tt
-few ZBar10 = lit≤ tt
-few VPrime = lit≤ tt
+-- what is computed over a table as the code holds it
+record Computed (u : Units) (xs full : List ℕ) : Type 0 where
+  no-digit-lost : valuesFrom 0 u xs ≡ full
+  few : sumOf xs ≤ 1000000000000
+  narrow : largest xs ≤ 4294967295
+  first-before : u .first .end ≤ u .second .end
+  second-before : u .second .end ≤ u .third .end
+  third-before : u .third .end ≤ 471
+
+computed : (c : Curve) → Computed (units c) (inUnits c) (table c)
+unfolding valuesFrom sumOf largest inUnits countedFrom unitAt table xBar yBar zBar xBar10 yBar10 zBar10 vPrime
+computed XBar = record { no-digit-lost = refl; few = lit≤ tt; narrow = lit≤ tt; first-before = lit≤ tt; second-before = lit≤ tt; third-before = lit≤ tt }
+computed YBar = record { no-digit-lost = refl; few = lit≤ tt; narrow = lit≤ tt; first-before = lit≤ tt; second-before = lit≤ tt; third-before = lit≤ tt }
+computed ZBar = record { no-digit-lost = refl; few = lit≤ tt; narrow = lit≤ tt; first-before = lit≤ tt; second-before = lit≤ tt; third-before = lit≤ tt }
+computed XBar10 = record { no-digit-lost = refl; few = lit≤ tt; narrow = lit≤ tt; first-before = lit≤ tt; second-before = lit≤ tt; third-before = lit≤ tt }
+computed YBar10 = record { no-digit-lost = refl; few = lit≤ tt; narrow = lit≤ tt; first-before = lit≤ tt; second-before = lit≤ tt; third-before = lit≤ tt }
+computed ZBar10 = record { no-digit-lost = refl; few = lit≤ tt; narrow = lit≤ tt; first-before = lit≤ tt; second-before = lit≤ tt; third-before = lit≤ tt }
+computed VPrime = record { no-digit-lost = refl; few = lit≤ tt; narrow = lit≤ tt; first-before = lit≤ tt; second-before = lit≤ tt; third-before = lit≤ tt }
+
+pub weighs : (c : Curve) (k : ℕ) → valueOf (units c) (inUnits c) k ≡ weightOf c k
+weighs c k =
+    sym (rw (zero-add k) at (value-at 0 k (units c) (inUnits c))) ∙ ap (λ (xs : List ℕ). getD xs k 0) (computed c .no-digit-lost)
 
 few-in-all : (c : Curve) → total 471 (entryOf (inUnits c)) ≤ 1000000000000
 unfolding inUnits
 few-in-all c =
     let long = counted-length 0 (units c) (table c) ∙ column c .entries in
-    rw (rw long at (total-list (inUnits c))) (few c)
-
-narrow : (c : Curve) → largest (inUnits c) ≤ 4294967295
-unfolding largest inUnits countedFrom unitAt table xBar yBar zBar xBar10 yBar10 zBar10 vPrime
-narrow XBar = lit≤ tt
-narrow YBar = lit≤ tt
-narrow ZBar = lit≤ tt
-narrow XBar10 = lit≤ tt
-narrow YBar10 = lit≤ tt
-narrow ZBar10 = lit≤ tt
-narrow VPrime = lit≤ tt
-
-in-order : (c : Curve) → (units c .first .end ≤ units c .second .end) × (units c .second .end ≤ units c .third .end) × (units c .third .end ≤ 471)
-in-order XBar = (lit≤ tt, lit≤ tt, lit≤ tt)
-in-order YBar = (lit≤ tt, lit≤ tt, lit≤ tt)
-in-order ZBar = (lit≤ tt, lit≤ tt, lit≤ tt)
-in-order XBar10 = (lit≤ tt, lit≤ tt, lit≤ tt)
-in-order YBar10 = (lit≤ tt, lit≤ tt, lit≤ tt)
-in-order ZBar10 = (lit≤ tt, lit≤ tt, lit≤ tt)
-in-order VPrime = (lit≤ tt, lit≤ tt, lit≤ tt)
+    rw (rw long at (total-list (inUnits c))) (computed c .few)
 
 pub held : (c : Curve) → Held (units c) (inUnits c)
 held c =
     record {
-      first-before = in-order c .0;
-      second-before = in-order c .1;
-      third-before = in-order c .2;
-      narrow = λ k. le-trans (at-most-largest (inUnits c) k) (narrow c);
+      first-before = computed c .first-before;
+      second-before = computed c .second-before;
+      third-before = computed c .third-before;
+      narrow = λ k. le-trans (at-most-largest (inUnits c) k) (computed c .narrow);
       few = few-in-all c;
       sum = rw (total-ext 471 (valueOf (units c) (inUnits c)) (weightOf c) (λ k h. weighs c k)) (curve-sum c);
     }
