@@ -19,13 +19,14 @@ use Rattle.curves.specs.Work.{lineOf, SplitOf}
 abbrev pub product : List ℕ → List ℕ → ℕ → ℕ
 product ps row k = getD ps k 0 * getD row k 0
 
-module _ (ps row : List ℕ) (p : Within 26160200 ps) (q : Within 100000 row) (k : ℕ) where
-  -- the remainder by 2^32 changes nothing
-  pub product-is : getD ps k 0 * (getD row k 0 % 4294967296) ≡ product ps row k
-  product-is = let few : getD row k 0 < 4294967296 = (let h = q k in omega arith) in ap (λ (x : ℕ). getD ps k 0 * x) (mod-eq-of-lt few)
+-- the remainder by 2^32 changes nothing
+pub product-is : (ps row : List ℕ) → Within 100000 row → (k : ℕ) → getD ps k 0 * (getD row k 0 % 4294967296) ≡ product ps row k
+product-is ps row q k =
+    let fit : getD row k 0 < 4294967296 = (let h = q k in omega arith) in
+    ap (λ (x : ℕ). getD ps k 0 * x) (mod-eq-of-lt fit)
 
-  pub product-small : product ps row k ≤ 2616020000000
-  product-small = mul-le-mul (p k) (q k)
+pub product-small : (ps row : List ℕ) → Within 26160200 ps → Within 100000 row → (k : ℕ) → product ps row k ≤ 2616020000000
+product-small ps row p q k = mul-le-mul (p k) (q k)
 
 -- the power may stand with the row or with the curve
 lit-weighed :

@@ -1,4 +1,4 @@
--- Laws of a row's weighted sum, by weights that are held in units: one place more, its bound, and what a stretch of places adds.
+-- Laws of a row's weighted sum, by weights that are held in units: one place more, one stretch more, and two rows together.
 use mathlib.Core.Path.{_≡_, _∙_, sym}
 use mathlib.Core.Bool.{true}
 use mathlib.Core.List.{List}
@@ -6,7 +6,6 @@ use Prim.Native.Nat.{ℕ, suc, _+_, _*_, _-_, _%_, _^_, _≤_, _<_}
 use native.Mathlib.Nat.{mod-eq-of-lt, le-refl, le-trans, mul-le-mul-left, mul-comm, mul-left-comm, add-mul}
 use native.Mathlib.Decide.{le-ind}
 use native.Mathlib.Omega.{arith}
-use borrow.Author.Tests.{lt-ltb, le-ltb}
 use Rattle.grid.specs.Check.{Within}
 use Rattle.mixing.specs.Sum.{total, weighted, entryOf}
 use Rattle.mixing.proofs.Sum.{total-more, weighted-one, weighted-bound, weighted-joined}
@@ -14,15 +13,17 @@ use Rattle.tables.specs.declared.units.Units.{Units}
 use Rattle.tables.specs.Held.{unitAt, valueOf, Held}
 use Rattle.curves.specs.Work.{lineOf, stretchSum}
 
-module _ (line : ℕ → ℕ) (small : (k : ℕ) → line k ≤ 10000000) (f : ℕ → ℕ) where
-  -- one place more, whose product is m, of a stretch that begins where `before` is the sum
-  pub next :
-      (k before sum m : ℕ) → sum + before ≡ weighted k f line → m ≡ f k * line k → sum + m + before ≡ weighted (k + 1) f line
-  next k before sum m e is = let w = weighted-one k f line in omega arith
+-- one place more, whose product is m, of a stretch that begins where `before` is the sum
+pub next :
+    (f line : ℕ → ℕ) (k before sum m : ℕ) → sum + before ≡ weighted k f line → m ≡ f k * line k →
+    sum + m + before ≡ weighted (k + 1) f line
+next f line k before sum m e is = let w = weighted-one k f line in omega arith
 
-  -- weights that add up to at most 10^12 make a sum that fits 64 bits
-  pub fits : total 471 f ≤ 1000000000000 → (k : ℕ) → k ≤ 471 → weighted k f line ≤ 10000000000000000000
-  fits h k l = le-trans (weighted-bound 10000000 k 471 f line small l) (mul-le-mul-left 10000000 h)
+-- weights that add up to at most 10^12 make a sum that fits 64 bits
+pub fits :
+    (f line : ℕ → ℕ) → ((k : ℕ) → line k ≤ 10000000) → total 471 f ≤ 1000000000000 → (k : ℕ) → k ≤ 471 →
+    weighted k f line ≤ 10000000000000000000
+fits f line small h k l = le-trans (weighted-bound 10000000 k 471 f line small l) (mul-le-mul-left 10000000 h)
 
 -- over a stretch of one unit, the sum that is counted in it becomes the sum at full value
 module _ (p begin : ℕ) (u f line : ℕ → ℕ) where
@@ -50,45 +51,28 @@ module _ (p begin : ℕ) (u f line : ℕ → ℕ) where
       (λ n l ih s. more n l (ih (λ k b e. s k b (omega arith))) (s n l (le-refl (suc n))))
       end h
 
--- the unit at a place, stretch by stretch
-module _ (u : Units) (k : ℕ) where
-  pub first-unit : k < u .first .end → unitAt u k ≡ u .first .unit
-  unfolding unitAt
-  first-unit h = rw (lt-ltb k (u .first .end) h)
+module _ (u : Units) (weights : List ℕ) (held : Held u weights) where
+  full-most : (row : List ℕ) → Within 10000000 row → (n : ℕ) → n ≤ 471 → weighted n (valueOf u weights) (entryOf row) ≤ 20000000000000000000000
+  full-most row small n l = le-trans (weighted-bound 10000000 n 471 (valueOf u weights) (entryOf row) small l) (mul-le-mul-left 10000000 (held .full))
 
-  pub second-unit : u .first .end ≤ k → k < u .second .end → unitAt u k ≡ u .second .unit
-  unfolding unitAt
-  second-unit l h = rw (le-ltb k (u .first .end) l, lt-ltb k (u .second .end) h)
-
-  pub third-unit : u .first .end ≤ k → u .second .end ≤ k → k < u .third .end → unitAt u k ≡ u .third .unit
-  unfolding unitAt
-  third-unit l m h = rw (le-ltb k (u .first .end) l, le-ltb k (u .second .end) m, lt-ltb k (u .third .end) h)
-
-  pub rest-unit : u .first .end ≤ k → u .second .end ≤ k → u .third .end ≤ k → unitAt u k ≡ u .rest
-  unfolding unitAt
-  rest-unit l m h = rw (le-ltb k (u .first .end) l, le-ltb k (u .second .end) m, le-ltb k (u .third .end) h)
-
--- one stretch more brings the sum at full value to the stretch's end, and it passes no 96 bits
-module _ (u : Units) (weights row : List ℕ) (held : Held u weights) (small : Within 10000000 row) where
+  -- one stretch more brings the sum at full value to the stretch's end, and it passes no 96 bits
   pub one-stretch-more :
-      (p begin end before after : ℕ) → begin ≤ end → end ≤ 471 → ((k : ℕ) → begin ≤ k → k < end → unitAt u k ≡ p) →
+      (row : List ℕ) → Within 10000000 row → (p begin end before after : ℕ) → begin ≤ end → end ≤ 471 →
+      ((k : ℕ) → begin ≤ k → k < end → unitAt u k ≡ p) →
       before ≡ weighted begin (valueOf u weights) (entryOf row) →
       after ≡ (stretchSum weights row begin end * p + before) % 2 ^ 96 →
       after ≡ weighted end (valueOf u weights) (entryOf row)
-  one-stretch-more p begin end before after b e same is now =
-      let most = le-trans (weighted-bound 10000000 end 471 (valueOf u weights) (entryOf row) small e) (mul-le-mul-left 10000000 (held .sum)) in
+  one-stretch-more row small p begin end before after b e same is now =
+      let most = full-most row small end e in
       rw (now, is, onward p begin (unitAt u) (entryOf weights) (entryOf row) end b same) (mod-eq-of-lt (omega arith))
 
--- two rows' sums, the first counted in units of 2^21, make the sum of their line, which passes no 96 bits
-pub both-rows :
-    (u : Units) (weights high low : List ℕ) → Held u weights → Within 10000000 high → Within 10000000 low → (upper lower : ℕ) →
-    upper ≡ weighted 471 (valueOf u weights) (entryOf high) → lower ≡ weighted 471 (valueOf u weights) (entryOf low) →
-    (upper * 2 ^ 21 + lower) % 2 ^ 96 ≡ weighted 471 (valueOf u weights) (lineOf true high low)
-both-rows u weights high low held p q upper lower is-upper is-lower =
-    let a = most high p in
-    let b = most low q in
-    let few : upper * 2 ^ 21 + lower < 2 ^ 96 = omega arith in
-    mod-eq-of-lt few ∙ (rw (is-upper, is-lower) (sym (weighted-joined (2 ^ 21) 471 (valueOf u weights) (entryOf high) (entryOf low))))
-  where
-    most : (row : List ℕ) → Within 10000000 row → weighted 471 (valueOf u weights) (entryOf row) ≤ 20000000000000000000000
-    most row small = le-trans (weighted-bound 10000000 471 471 (valueOf u weights) (entryOf row) small (le-refl 471)) (mul-le-mul-left 10000000 (held .sum))
+  -- two rows' sums, the first times 2^21, make the sum of their line, which passes no 96 bits
+  pub both-rows :
+      (high low : List ℕ) → Within 10000000 high → Within 10000000 low → (upper lower : ℕ) →
+      upper ≡ weighted 471 (valueOf u weights) (entryOf high) → lower ≡ weighted 471 (valueOf u weights) (entryOf low) →
+      (upper * 2 ^ 21 + lower) % 2 ^ 96 ≡ weighted 471 (valueOf u weights) (lineOf true high low)
+  both-rows high low p q upper lower is-upper is-lower =
+      let a = full-most high p 471 (le-refl 471) in
+      let b = full-most low q 471 (le-refl 471) in
+      let fit : upper * 2 ^ 21 + lower < 2 ^ 96 = omega arith in
+      mod-eq-of-lt fit ∙ (rw (is-upper, is-lower) (sym (weighted-joined (2 ^ 21) 471 (valueOf u weights) (entryOf high) (entryOf low))))

@@ -30,7 +30,7 @@ pub fn lit_sums(observer: u32, illuminant: Illuminant, row: &[u64; 471]) -> Sums
     }
 }
 
-// Power times row at each place: what is above 2^21, and the 21 bits below.
+// Power times row at each place: how often it has 2^21, and the 21 bits that are left.
 fn split(powers: &[u32; 471], row: &[u64; 471], high: &mut [u64; 471], low: &mut [u64; 471])
     requires { ⌜ (length (now high) ≡ 471) × (length (now low) ≡ 471) × Within 26160200 (now powers) × Within 100000 (now row) ⌝ }
     ensures { λ _. ⌜ SplitOf (now (powers .entry)) (now (row .entry)) (now (high .exit)) (now (low .exit)) ⌝ }

@@ -1,4 +1,4 @@
-// A row summed by a curve's table, which is held in units; or two rows, of which the first is counted in units of 2^21.
+// A row summed by a curve's table, which is held in units; or two rows, of which the first stands for 2^21 times its numbers.
 use exact::digits::Short;
 use exact::digits::joined;
 use exact::digits::short_times_plus;
@@ -27,34 +27,34 @@ ghost use Rattle.tables.specs.Curves.{weightOf};
 ghost use Rattle.tables.specs.Held.{valueOf, Held};
 ghost use Rattle.curves.specs.Work.{lineOf, stretchSum, Stretched};
 
-// Of one row, `low`, or where it is split of high · 2^21 + low: the table is built once for both.
-pub fn by_curve(curve: Curve, split: bool, high: &[u64; 471], low: &[u64; 471]) -> Short
+// Of the row `low` or, where it comes in two, of high · 2^21 + low: the table is built once for both.
+pub fn by_curve(curve: Curve, in_two: bool, high: &[u64; 471], low: &[u64; 471]) -> Short
     requires { ⌜ Within 10000000 (now high) × Within 10000000 (now low) ⌝ }
-    ensures { λ r. ⌜ short r ≡ weighted 471 (weightOf curve) (lineOf split (now (high .entry)) (now (low .entry))) ⌝ }
+    ensures { λ r. ⌜ short r ≡ weighted 471 (weightOf curve) (lineOf in_two (now (high .entry)) (now (low .entry))) ⌝ }
 {
     match curve {
-        Curve::XBar => sum(&x_bar(), X_BAR_UNITS, split, high, low),
-        Curve::YBar => sum(&y_bar(), Y_BAR_UNITS, split, high, low),
-        Curve::ZBar => sum(&z_bar(), Z_BAR_UNITS, split, high, low),
-        Curve::XBar10 => sum(&x_bar_10(), X_BAR_10_UNITS, split, high, low),
-        Curve::YBar10 => sum(&y_bar_10(), Y_BAR_10_UNITS, split, high, low),
-        Curve::ZBar10 => sum(&z_bar_10(), Z_BAR_10_UNITS, split, high, low),
-        Curve::VPrime => sum(&v_prime(), V_PRIME_UNITS, split, high, low),
+        Curve::XBar => sum(&x_bar(), X_BAR_UNITS, in_two, high, low),
+        Curve::YBar => sum(&y_bar(), Y_BAR_UNITS, in_two, high, low),
+        Curve::ZBar => sum(&z_bar(), Z_BAR_UNITS, in_two, high, low),
+        Curve::XBar10 => sum(&x_bar_10(), X_BAR_10_UNITS, in_two, high, low),
+        Curve::YBar10 => sum(&y_bar_10(), Y_BAR_10_UNITS, in_two, high, low),
+        Curve::ZBar10 => sum(&z_bar_10(), Z_BAR_10_UNITS, in_two, high, low),
+        Curve::VPrime => sum(&v_prime(), V_PRIME_UNITS, in_two, high, low),
     }
 }
 
 fn sum(
     weights: &[u64; 471],
     units: Units,
-    split: bool,
+    in_two: bool,
     high: &[u64; 471],
     low: &[u64; 471],
 ) -> Short
     requires { ⌜ Held units (now weights) × Within 10000000 (now high) × Within 10000000 (now low) ⌝ }
-    ensures { λ r. ⌜ short r ≡ weighted 471 (valueOf units (now (weights .entry))) (lineOf split (now (high .entry)) (now (low .entry))) ⌝ }
+    ensures { λ r. ⌜ short r ≡ weighted 471 (valueOf units (now (weights .entry))) (lineOf in_two (now (high .entry)) (now (low .entry))) ⌝ }
 {
     let below = row_sum(weights, units, low);
-    if split {
+    if in_two {
         return short_times_plus(row_sum(weights, units, high), 2097152, below);
     }
     below
@@ -104,10 +104,10 @@ fn with_stretch(
     requires { ⌜ Stretched begin end (now weights) × Within 10000000 (now row) ⌝ }
     ensures { λ r. ⌜ short r ≡ (stretchSum (now (weights .entry)) (now (row .entry)) begin end * unit + short before) % 2 ^ 96 ⌝ }
 {
-    let mut stretch: u64 = 0;
+    let mut sum: u64 = 0;
     for k in begin..end {
         // Both are below 2^32 as they stand; the remainders say so to the compiler, which then takes several places at a time.
-        stretch += weights[k] % 4294967296 * (row[k] % 4294967296);
+        sum += weights[k] % 4294967296 * (row[k] % 4294967296);
     }
-    short_times_plus(joined(0, stretch), unit, before)
+    short_times_plus(joined(0, sum), unit, before)
 }

@@ -62,5 +62,6 @@ pub fn weigh(curve: Curve, row: &[u64; 471]) -> Short
     requires { ⌜ Within 10000000 (now row) ⌝ }
     ensures { λ r. ⌜ short r ≡ weighted 471 (weightOf curve) (entryOf (now (row .entry))) ⌝ }
 {
+    // In one row: what is lent as its upper part is not looked at.
     by_curve(curve, false, row, row)
 }

@@ -35,7 +35,7 @@ total-mul c zero f = sym (mul-zero c)
 total-mul c (suc n) f = ap (λ (x : ℕ). x + c * f n) (total-mul c n f) ∙ sym (mul-add c (total n f) (f n))
 
 -- the first place apart
-total-first : (n : ℕ) (f : ℕ → ℕ) → total (suc n) f ≡ f 0 + total n (λ k. f (suc k))
+pub total-first : (n : ℕ) (f : ℕ → ℕ) → total (suc n) f ≡ f 0 + total n (λ k. f (suc k))
 unfolding total
 total-first zero f = omega arith
 total-first (suc n) f = let ih : total (suc n) f ≡ f 0 + total n (λ k. f (suc k)) = total-first n f in omega arith
@@ -45,20 +45,6 @@ pub total-list : (xs : List ℕ) → total (length xs) (λ k. getD xs k 0) ≡ s
 unfolding total sumOf
 total-list [] = refl
 total-list (x ∷ xs) = total-first (length xs) (λ k. getD (x ∷ xs) k 0) ∙ ap (λ (y : ℕ). x + y) (total-list xs)
-
--- the sum of the products of two lists, place by place
-unfoldable pub productsOf : List ℕ → List ℕ → ℕ
-productsOf [] ys = 0
-productsOf (x ∷ xs) [] = 0
-productsOf (x ∷ xs) (y ∷ ys) = x * y + productsOf xs ys
-
-pub total-products : (xs ys : List ℕ) → length xs ≡ length ys → total (length xs) (λ k. getD xs k 0 * getD ys k 0) ≡ productsOf xs ys
-unfolding total productsOf
-total-products [] ys e = refl
-total-products (x ∷ xs) [] e = absurd (omega arith)
-total-products (x ∷ xs) (y ∷ ys) e =
-    total-first (length xs) (λ k. getD (x ∷ xs) k 0 * getD (y ∷ ys) k 0)
-    ∙ ap (λ (z : ℕ). x * y + z) (total-products xs ys (omega arith))
 
 -- more places add up to no less
 pub total-more : (k n : ℕ) (f : ℕ → ℕ) → k ≤ n → total k f ≤ total n f

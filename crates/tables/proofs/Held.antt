@@ -11,7 +11,7 @@ use Rattle.mixing.proofs.Sum.{total-ext, total-list}
 use Rattle.tables.specs.Tables.{xBar, yBar, zBar, xBar10, yBar10, zBar10, vPrime}
 use Rattle.tables.specs.Curves.{table, weightOf}
 use Rattle.tables.specs.Columns.{largest}
-use Rattle.tables.specs.Held.{units, unitAt, countedFrom, inUnits, valueOf, Held}
+use Rattle.tables.specs.Held.{units, unitAt, countedFrom, inUnits, valueOf, InOrder, Counts, Held}
 use Rattle.tables.specs.declared.Curve.{Curve}
 use Rattle.tables.specs.declared.Curve.the-variants.{XBar, YBar, ZBar, XBar10, YBar10, ZBar10, VPrime}
 use Rattle.tables.specs.declared.units.Units.{Units}
@@ -36,41 +36,40 @@ counted-length k u [] = refl
 counted-length k u (x ∷ xs) = ap suc (counted-length (suc k) u xs)
 
 -- what is computed over a table as the code holds it
-record Computed (u : Units) (xs full : List ℕ) : Type 0 where
+record HeldTable (u : Units) (xs full : List ℕ) : Type 0 where
   no-digit-lost : valuesFrom 0 u xs ≡ full
-  few : sumOf xs ≤ 1000000000000
-  narrow : largest xs ≤ 4294967295
-  first-before : u .first .end ≤ u .second .end
-  second-before : u .second .end ≤ u .third .end
-  third-before : u .third .end ≤ 471
+  each : largest xs ≤ 4294967295
+  all : sumOf xs ≤ 1000000000000
+  in-order : InOrder u
 
-computed : (c : Curve) → Computed (units c) (inUnits c) (table c)
+held-table : (c : Curve) → HeldTable (units c) (inUnits c) (table c)
 unfolding valuesFrom sumOf largest inUnits countedFrom unitAt table xBar yBar zBar xBar10 yBar10 zBar10 vPrime
-computed XBar = record { no-digit-lost = refl; few = lit≤ tt; narrow = lit≤ tt; first-before = lit≤ tt; second-before = lit≤ tt; third-before = lit≤ tt }
-computed YBar = record { no-digit-lost = refl; few = lit≤ tt; narrow = lit≤ tt; first-before = lit≤ tt; second-before = lit≤ tt; third-before = lit≤ tt }
-computed ZBar = record { no-digit-lost = refl; few = lit≤ tt; narrow = lit≤ tt; first-before = lit≤ tt; second-before = lit≤ tt; third-before = lit≤ tt }
-computed XBar10 = record { no-digit-lost = refl; few = lit≤ tt; narrow = lit≤ tt; first-before = lit≤ tt; second-before = lit≤ tt; third-before = lit≤ tt }
-computed YBar10 = record { no-digit-lost = refl; few = lit≤ tt; narrow = lit≤ tt; first-before = lit≤ tt; second-before = lit≤ tt; third-before = lit≤ tt }
-computed ZBar10 = record { no-digit-lost = refl; few = lit≤ tt; narrow = lit≤ tt; first-before = lit≤ tt; second-before = lit≤ tt; third-before = lit≤ tt }
-computed VPrime = record { no-digit-lost = refl; few = lit≤ tt; narrow = lit≤ tt; first-before = lit≤ tt; second-before = lit≤ tt; third-before = lit≤ tt }
+held-table XBar = record { no-digit-lost = refl; each = lit≤ tt; all = lit≤ tt; in-order = record { first = lit≤ tt; second = lit≤ tt; third = lit≤ tt } }
+held-table YBar = record { no-digit-lost = refl; each = lit≤ tt; all = lit≤ tt; in-order = record { first = lit≤ tt; second = lit≤ tt; third = lit≤ tt } }
+held-table ZBar = record { no-digit-lost = refl; each = lit≤ tt; all = lit≤ tt; in-order = record { first = lit≤ tt; second = lit≤ tt; third = lit≤ tt } }
+held-table XBar10 = record { no-digit-lost = refl; each = lit≤ tt; all = lit≤ tt; in-order = record { first = lit≤ tt; second = lit≤ tt; third = lit≤ tt } }
+held-table YBar10 = record { no-digit-lost = refl; each = lit≤ tt; all = lit≤ tt; in-order = record { first = lit≤ tt; second = lit≤ tt; third = lit≤ tt } }
+held-table ZBar10 = record { no-digit-lost = refl; each = lit≤ tt; all = lit≤ tt; in-order = record { first = lit≤ tt; second = lit≤ tt; third = lit≤ tt } }
+held-table VPrime = record { no-digit-lost = refl; each = lit≤ tt; all = lit≤ tt; in-order = record { first = lit≤ tt; second = lit≤ tt; third = lit≤ tt } }
 
 pub weighs : (c : Curve) (k : ℕ) → valueOf (units c) (inUnits c) k ≡ weightOf c k
 weighs c k =
-    sym (rw (zero-add k) at (value-at 0 k (units c) (inUnits c))) ∙ ap (λ (xs : List ℕ). getD xs k 0) (computed c .no-digit-lost)
+    sym (rw (zero-add k) at (value-at 0 k (units c) (inUnits c)))
+    ∙ ap (λ (xs : List ℕ). getD xs k 0) (held-table c .no-digit-lost)
 
-few-in-all : (c : Curve) → total 471 (entryOf (inUnits c)) ≤ 1000000000000
+counts : (c : Curve) → Counts (inUnits c)
 unfolding inUnits
-few-in-all c =
+counts c =
     let long = counted-length 0 (units c) (table c) ∙ column c .entries in
-    rw (rw long at (total-list (inUnits c))) (computed c .few)
+    record {
+      each = λ k. le-trans (at-most-largest (inUnits c) k) (held-table c .each);
+      all = rw (rw long at (total-list (inUnits c))) (held-table c .all);
+    }
 
 pub held : (c : Curve) → Held (units c) (inUnits c)
 held c =
     record {
-      first-before = computed c .first-before;
-      second-before = computed c .second-before;
-      third-before = computed c .third-before;
-      narrow = λ k. le-trans (at-most-largest (inUnits c) k) (computed c .narrow);
-      few = few-in-all c;
-      sum = rw (total-ext 471 (valueOf (units c) (inUnits c)) (weightOf c) (λ k h. weighs c k)) (curve-sum c);
+      in-order = held-table c .in-order;
+      counts = counts c;
+      full = rw (total-ext 471 (valueOf (units c) (inUnits c)) (weightOf c) (λ k h. weighs c k)) (curve-sum c);
     }

@@ -2,5 +2,6 @@
 pub mod Largest
 pub mod Columns
 pub mod Sums
+pub mod UnitAt
 pub mod Held
 pub mod White

@@ -10,12 +10,15 @@ use Rattle.tables.specs.declared.Curve.the-variants.{XBar, YBar, ZBar, X
 use Rattle.tables.specs.declared.units.Stretch.{Stretch}
 use Rattle.tables.specs.declared.units.Units.{Units}
 
+-- the places below `end`, from where the stretch before ends, counted in `unit`
 abbrev stretch : ℕ → ℕ → Stretch
-stretch e u = record { end = e; unit = u }
+stretch end unit = record { end = end; unit = unit }
 
+-- three stretches, and the unit of the rest
 abbrev stretches : Stretch → Stretch → Stretch → ℕ → Units
-stretches a b c u = record { first = a; second = b; third = c; rest = u }
+stretches first second third rest = record { first = first; second = second; third = third; rest = rest }
 
+-- the units of each curve, as tools/tables finds them: x̄ below place 190, which is 550 nm, in thousands
 abbrev pub units : Curve → Units
 units XBar = stretches (stretch 190 1000) (stretch 375 10000) (stretch 471 10) 1
 units YBar = stretches (stretch 61 10) (stretch 361 10000) (stretch 459 10) 1
@@ -44,12 +47,19 @@ inUnits c = countedFrom 0 (units c) (table c)
 abbrev pub valueOf : Units → List ℕ → ℕ → ℕ
 valueOf u xs k = unitAt u k * entryOf xs k
 
--- what a row can be summed by: the ends are in order, and what is held fits 32 bits at each place and adds up to little, as it
--- stands and at its full value
+-- the ends are in order, and none is past the row's
+pub record InOrder (u : Units) : Type 0 where
+  pub first : u .first .end ≤ u .second .end
+  pub second : u .second .end ≤ u .third .end
+  pub third : u .third .end ≤ 471
+
+-- counts that fit 32 bits each, and add up to so little that a row's sum by them fits 64
+pub record Counts (xs : List ℕ) : Type 0 where
+  pub each : (k : ℕ) → entryOf xs k ≤ 4294967295
+  pub all : total 471 (entryOf xs) ≤ 1000000000000
+
+-- what a row can be summed by
 pub record Held (u : Units) (xs : List ℕ) : Type 0 where
-  pub first-before : u .first .end ≤ u .second .end
-  pub second-before : u .second .end ≤ u .third .end
-  pub third-before : u .third .end ≤ 471
-  pub narrow : (k : ℕ) → entryOf xs k ≤ 4294967295
-  pub few : total 471 (entryOf xs) ≤ 1000000000000
-  pub sum : total 471 (valueOf u xs) ≤ 2000000000000000
+  pub in-order : InOrder u
+  pub counts : Counts xs
+  pub full : total 471 (valueOf u xs) ≤ 2000000000000000

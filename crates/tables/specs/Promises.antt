@@ -4,8 +4,9 @@ use mathlib.Core.List.{List}
 use Prim.Native.Nat.{ℕ, _≤_}
 use lib.ListN.{getD}
 use Rattle.mixing.specs.Nearest.{nearest}
-use Rattle.tables.specs.Curves.{table, powers}
+use Rattle.tables.specs.Curves.{table, powers, weightOf}
 use Rattle.tables.specs.Columns.{largest, Column, tableSum, tableTop, powersSum, powersTop}
+use Rattle.tables.specs.Held.{units, inUnits, valueOf}
 use Rattle.mixing.specs.Sum.{sumOf}
 use Rattle.tables.specs.Tables.{xBar, yBar, zBar, xBar10, yBar10, zBar10}
 use Rattle.tables.specs.declared.Curve.{Curve}
@@ -20,6 +21,8 @@ pub record Columns : Type 0 where
   pub bounded : (xs : List ℕ) (k : ℕ) → getD xs k 0 ≤ largest xs
   pub column : (c : Curve) → Column (table c) (tableSum c) (tableTop c)
   pub powers-column : (i : Illuminant) → Column (powers i) (powersSum i) (powersTop i)
+  -- the code holds a curve's table in units, and no digit is lost
+  pub no-digit-lost : (c : Curve) (k : ℕ) → valueOf (units c) (inUnits c) k ≡ weightOf c k
   -- 106.865469489595, 106.856917101172 and 106.892251278636 are printed for 1931
   pub x̄-printed : twelveDecimals xBar ≡ 106865469489595
   pub ȳ-printed : twelveDecimals yBar ≡ 106856917101172

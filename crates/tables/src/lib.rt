@@ -1,5 +1,5 @@
-// The CIE tables from 360 to 830 nm: which there are, and the whole of each. A table is built anew where it is asked for;
-// each has a function of its own, since one match over the numbers would look up every entry by the curve.
+// The CIE tables from 360 to 830 nm: which there are, and the whole of each, a curve's in its units. A table is built anew where
+// it is asked for; each has a function of its own, since one match over the numbers would look up every entry by the curve.
 mod numbers;
 pub mod promises;
 pub mod units;
@@ -46,6 +46,7 @@ pub fn powers_of(illuminant: Illuminant) -> [u32; 471]
     }
 }
 
+// The curves' tables, each entry counted in the unit of its place.
 pub fn x_bar() -> [u64; 471]
     ensures { λ r. ⌜ r ≡ inUnits XBar ⌝ }
 {

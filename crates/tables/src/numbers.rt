@@ -2,7 +2,7 @@
 use crate::units::Stretch;
 use crate::units::Units;
 
-// x̄ of the 1931 observer, at 10^13 to one, each entry in the unit of its stretch.
+// x̄ of the 1931 observer, at 10^13 to one, counted in the unit of each stretch.
 pub const X_BAR: [u64; 471] = [
     1299000,
     1458470,
@@ -490,7 +490,7 @@ pub const X_BAR_UNITS: Units = Units {
     rest: 1,
 };
 
-// ȳ of the 1931 observer, which is V, at 10^13 to one, each entry in the unit of its stretch.
+// ȳ of the 1931 observer, which is V, at 10^13 to one, counted in the unit of each stretch.
 pub const Y_BAR: [u64; 471] = [
     3917000,
     4393581,
@@ -975,7 +975,7 @@ pub const Y_BAR_UNITS: Units = Units {
     rest: 1,
 };
 
-// z̄ of the 1931 observer, at 10^13 to one, each entry in the unit of its stretch.
+// z̄ of the 1931 observer, at 10^13 to one, counted in the unit of each stretch.
 pub const Z_BAR: [u64; 471] = [
     6061000,
     6808792,
@@ -1463,7 +1463,7 @@ pub const Z_BAR_UNITS: Units = Units {
     rest: 1,
 };
 
-// x̄10 of the 1964 observer, at 10^13 to one, each entry in the unit of its stretch.
+// x̄10 of the 1964 observer, at 10^13 to one, counted in the unit of each stretch.
 pub const X_BAR_10: [u64; 471] = [
     122200,
     185138,
@@ -1948,7 +1948,7 @@ pub const X_BAR_10_UNITS: Units = Units {
     rest: 1,
 };
 
-// ȳ10 of the 1964 observer, which is V10, at 10^13 to one, each entry in the unit of its stretch.
+// ȳ10 of the 1964 observer, which is V10, at 10^13 to one, counted in the unit of each stretch.
 pub const Y_BAR_10: [u64; 471] = [
     13398,
     20294,
@@ -2433,7 +2433,7 @@ pub const Y_BAR_10_UNITS: Units = Units {
     rest: 1,
 };
 
-// z̄10 of the 1964 observer, at 10^13 to one, each entry in the unit of its stretch.
+// z̄10 of the 1964 observer, at 10^13 to one, counted in the unit of each stretch.
 pub const Z_BAR_10: [u64; 471] = [
     535027,
     810720,
@@ -2918,7 +2918,7 @@ pub const Z_BAR_10_UNITS: Units = Units {
     rest: 1,
 };
 
-// V′, which is 0 below 380 and above 780 nm, at 10^13 to one, each entry in the unit of its stretch.
+// V′, which is 0 below 380 and above 780 nm, at 10^13 to one, counted in the unit of each stretch.
 pub const V_PRIME: [u64; 471] = [
     0,
     0,

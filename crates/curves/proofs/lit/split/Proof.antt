@@ -56,7 +56,7 @@ module _ (c : tie.In-loop Inv-loop μ-loop) where
   k = c .before .loop .k
 
   abbrev is : getD ps k 0 * (getD row k 0 % 4294967296) ≡ product ps row k
-  is = product-is ps row (begun .pre .2) (begun .pre .3) k
+  is = product-is ps row (begun .pre .3) k
 
 mul-product-3 : tie.Need-mul-product-3 Inv-loop μ-loop
 mul-product-3 c =

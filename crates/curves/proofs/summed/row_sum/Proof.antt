@@ -3,7 +3,8 @@ use Prim.Native.Nat.{zero-le}
 use native.Mathlib.Omega.{arith}
 use borrow.Author.Needs.{needs}
 use Rattle.mixing.specs.Sum.{total, weighted}
-use Rattle.curves.proofs.Rows.{first-unit, second-unit, third-unit, rest-unit, one-stretch-more}
+use Rattle.tables.proofs.UnitAt.{first-unit, second-unit, third-unit, rest-unit}
+use Rattle.curves.proofs.Rows.{one-stretch-more}
 use Rattle.curves.proofs.summed.row_sum.Statement.{statement}
 use Rattle.curves.proofs.summed.row_sum.Tie as tie
 
@@ -31,10 +32,10 @@ returns c =
     let s = first .before .before in
     let u = s .args .units in
     let held = s .pre .0 in
-    let ends-1 = held .first-before in
-    let ends-2 = held .second-before in
-    let ends-3 = held .third-before in
-    let more = one-stretch-more u (s .args .weights .now) (s .args .row .now) held (s .pre .1) in
+    let ends-1 = held .in-order .first in
+    let ends-2 = held .in-order .second in
+    let ends-3 = held .in-order .third in
+    let more = one-stretch-more u (s .args .weights .now) held (s .args .row .now) (s .pre .1) in
     let to-first = more (u .first .unit) 0 (u .first .end) _ _ zero-le (omega arith) (λ k b h. first-unit u k h) (first .before .joined .ensures) (first .with-stretch .ensures) in
     let to-second = more (u .second .unit) (u .first .end) (u .second .end) _ _ ends-1 (omega arith) (λ k b h. second-unit u k b h) to-first (second .with-stretch2 .ensures) in
     let to-third = more (u .third .unit) (u .second .end) (u .third .end) _ _ ends-2 ends-3 (λ k b h. third-unit u k (omega arith) b h) to-second (third .with-stretch3 .ensures) in

@@ -21,7 +21,7 @@ returns c =
     let s = lower .before in
     let t = s .args in
     rw (taken .if1 .taken, c .short-times-plus .ensures)
-    (both-rows (t .units) (t .weights .now) (t .high .now) (t .low .now) (s .pre .0) (s .pre .1) (s .pre .2) _ _
+    (both-rows (t .units) (t .weights .now) (s .pre .0) (t .high .now) (t .low .now) (s .pre .1) (s .pre .2) _ _
     (upper .row-sum2 .ensures)
     (lower .row-sum .ensures))
 
