@@ -12,7 +12,7 @@ use Rattle.tables.specs.Held.{Counts}
 abbrev pub lineOf : Bool → List ℕ → List ℕ → ℕ → ℕ
 lineOf in-two high low k = cond in-two (entryOf high k * 2 ^ 21 + entryOf low k) (entryOf low k)
 
--- the sum over the places from `begin` on, below `end`, which is not before it
+-- the sum over the places from `begin` on, below `end`, where `begin` is at most `end`
 abbrev pub stretchSum : List ℕ → List ℕ → ℕ → ℕ → ℕ
 stretchSum weights row begin end = weighted end (entryOf weights) (entryOf row) - weighted begin (entryOf weights) (entryOf row)
 

@@ -43,6 +43,7 @@ pub fn by_curve(curve: Curve, in_two: bool, high: &[u64; 471], low: &[u64; 471])
     }
 }
 
+// The same by any table that is held in units.
 fn sum(
     weights: &[u64; 471],
     units: Units,

@@ -1,4 +1,4 @@
--- What is promised of the tables: length, exact sum and largest entry of each, and that the printed sums are met.
+-- What is promised of the tables: length, exact sum and largest entry of each, that no digit is lost, and the printed sums.
 use mathlib.Core.Path.{_≡_}
 use mathlib.Core.List.{List}
 use Prim.Native.Nat.{ℕ, _≤_}
