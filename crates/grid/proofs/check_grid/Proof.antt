@@ -16,21 +16,9 @@ step-holds c = sym (c .before .is-step .ensures) ∙ not-false _ (c .if1 .left)
 start-holds : (c : tie.Else2) → isStart (begin (c .before .before) .args .start) ≡ true
 start-holds c = sym (c .before .is-start .ensures) ∙ not-false _ (c .if2 .left)
 
-is-step-requires : tie.Need-is-step-requires
-is-step-requires c κs = search needs
-
-refused-requires : tie.Need-refused-requires
-refused-requires c κs = search needs
-
 returns : tie.Need-returns
 unfolding gridCheck
 returns c = rw (sym (c .before .before .is-step .ensures) ∙ not-true _ (c .before .if1 .taken)) (c .refused .ensures)
-
-is-start-requires : tie.Need-is-start-requires
-is-start-requires c κs = search needs
-
-refused-requires-2 : tie.Need-refused-requires-2
-refused-requires-2 c κs = search needs
 
 returns-2 : tie.Need-returns-2
 unfolding gridCheck
@@ -40,9 +28,6 @@ returns-2 c =
 
 is-count-requires : tie.Need-is-count-requires
 is-count-requires c κs = (step-holds (c .before .before), start-holds c)
-
-refused-requires-3 : tie.Need-refused-requires-3
-refused-requires-3 c κs = search needs
 
 returns-3 : tie.Need-returns-3
 unfolding gridCheck
@@ -61,13 +46,13 @@ pub check-grid-spec : {M : Type 1} → statement M
 check-grid-spec =
     tie.close
     (tie.spec
-    is-step-requires
-    refused-requires
+    (λ c κs. search needs)
+    (λ c κs. search needs)
     returns
-    is-start-requires
-    refused-requires-2
+    (λ c κs. search needs)
+    (λ c κs. search needs)
     returns-2
     is-count-requires
-    refused-requires-3
+    (λ c κs. search needs)
     returns-3
     returns-4)

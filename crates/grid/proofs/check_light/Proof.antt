@@ -15,18 +15,9 @@ begin c = c .before .before .before .before
 grid-fine : (c : tie.After-enum-told) → gridCheck (begin c .args .start) (begin c .args .step) (length (begin c .args .samples .now)) ≡ Fine
 grid-fine c = sym (c .before .before .check-grid .ensures) ∙ c .enum-told .given .1
 
-check-grid-requires : tie.Need-check-grid-requires
-check-grid-requires c κs = search needs
-
-enum-told : tie.Need-enum-told
-enum-told c = search needs
-
 -- a grid that is accepted has no more than 531 samples
 check-samples-requires : tie.Need-check-samples-requires
 check-samples-requires c κs = let t = begin c .args in accepted (t .start) (t .step) (length (t .samples .now)) (grid-fine c) .many
-
-enum-known-on-grid : tie.Need-enum-known-on-grid
-enum-known-on-grid c = search needs
 
 returns : tie.Need-returns
 unfolding lightCheck
@@ -40,9 +31,9 @@ pub check-light-spec : {M : Type 1} → statement M
 check-light-spec =
     tie.close
     (tie.spec
-    check-grid-requires
-    enum-told
+    (λ c κs. search needs)
+    (λ c. search needs)
     check-samples-requires
-    enum-known-on-grid
+    (λ c. search needs)
     returns
     returns-2)

@@ -19,9 +19,6 @@ abbrev μ-loop : tie.MeasureT-loop
 loop-holds : tie.Need-loop-holds Inv-loop μ-loop
 loop-holds c = (omega arith, λ j l. absurd (omega arith))
 
-mul-if1 : tie.Need-mul-if1 Inv-loop μ-loop
-mul-if1 c = search needs
-
 shared-slice-read-if1 : tie.Need-shared-slice-read-if1 Inv-loop μ-loop
 shared-slice-read-if1 c = omega arith
 
@@ -59,7 +56,7 @@ first-fault-spec =
     Inv-loop
     μ-loop
     loop-holds
-    mul-if1
+    (λ c. search needs)
     shared-slice-read-if1
     cast-t10
     returns

@@ -28,12 +28,6 @@ returns-2 c =
     let low = start-range (t .start) (s .pre .1) .0 in
     rw (lt-leb (t .start + t .step * (t .count - 1)) 830 (omega arith), and-false)
 
-cast-last : tie.Need-cast-last
-cast-last c = search needs
-
-sub-last : tie.Need-sub-last
-sub-last c = search needs
-
 mul-last : tie.Need-mul-last
 mul-last c = let h = last-small c in omega arith
 
@@ -52,4 +46,4 @@ returns-4 c =
 
 pub is-count-spec : {M : Type 1} → statement M
 is-count-spec =
-    tie.close (tie.spec returns returns-2 cast-last sub-last mul-last add-last returns-3 returns-4)
+    tie.close (tie.spec returns returns-2 (λ c. search needs) (λ c. search needs) mul-last add-last returns-3 returns-4)

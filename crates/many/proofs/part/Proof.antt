@@ -11,12 +11,6 @@ slice-aggregate-answers c = simp length-take (omega arith)
 slice-aggregate-answers-2 : tie.Need-slice-aggregate-answers-2
 slice-aggregate-answers-2 c = simp length-take (omega arith)
 
-answers-requires : tie.Need-answers-requires
-answers-requires c κs = search needs
-
-returns : tie.Need-returns
-returns c = search needs
-
 pub part-spec : {M : Type 1} → statement M
 part-spec =
-    tie.close (tie.spec slice-aggregate-answers slice-aggregate-answers-2 answers-requires returns)
+    tie.close (tie.spec slice-aggregate-answers slice-aggregate-answers-2 (λ c κs. search needs) (λ c. search needs))

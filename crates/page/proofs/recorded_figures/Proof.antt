@@ -37,29 +37,11 @@ count-fits c =
     let count = ap (λ (h : Header). h .count) (said (bytes c) lent (head c) (answer c) .1) in
     omega (arith, count, count-most (bytes c) (fine (bytes c) lent (head c) (answer c)), c .before .before .before .read-record .kept .1 .0)
 
-slice-aggregate-read-record : tie.Need-slice-aggregate-read-record
-slice-aggregate-read-record c = search needs
-
-read-record-requires : tie.Need-read-record-requires
-read-record-requires c κs = search needs
-
-enum-known-said : tie.Need-enum-known-said
-enum-known-said c = search needs
-
-cast-count : tie.Need-cast-count
-cast-count c = search needs
-
 array-share-prefix-row : tie.Need-array-share-prefix-row
 array-share-prefix-row c = count-fits (c .before .before)
 
 slice-aggregate-figures : tie.Need-slice-aggregate-figures
 slice-aggregate-figures c = let h = count-fits (c .before .before .before) in simp length-take (omega arith)
-
-figures-requires : tie.Need-figures-requires
-figures-requires c κs = search needs
-
-enum-known-refusal : tie.Need-enum-known-refusal
-enum-known-refusal c = search needs
 
 returns : tie.Need-returns
 unfolding recordedFigures
@@ -87,13 +69,13 @@ pub recorded-figures-spec : {M : Type 1} → statement M
 recorded-figures-spec =
     tie.close
     (tie.spec
-    slice-aggregate-read-record
-    read-record-requires
-    enum-known-said
-    cast-count
+    (λ c. search needs)
+    (λ c κs. search needs)
+    (λ c. search needs)
+    (λ c. search needs)
     array-share-prefix-row
     slice-aggregate-figures
-    figures-requires
-    enum-known-refusal
+    (λ c κs. search needs)
+    (λ c. search needs)
     returns
     returns-2)

@@ -29,12 +29,6 @@ length-of c = front-end (c .put-text .ensures) ∙ ap (λ a. length (textOf a)) 
 text-of : (c : tie.After-put-text) → take (c .put-text .result) (c .put-text .last .0) ≡ reportOf (bytes c)
 text-of c = front-read (c .put-text .ensures) ∙ ap textOf (c .before .recorded-figures .ensures)
 
-slice-aggregate-put-text : tie.Need-slice-aggregate-put-text
-slice-aggregate-put-text c = search needs
-
-recorded-figures-requires : tie.Need-recorded-figures-requires
-recorded-figures-requires c κs = search needs
-
 put-text-requires : tie.Need-put-text-requires
 put-text-requires c κs = rw (c .recorded-figures .ensures) (most (begin c .args .bytes .now))
 
@@ -46,20 +40,11 @@ returns c =
     let short = lt-leb (length (reportOf (bytes page))) (length text) (omega arith) in
     (rw short, rw short)
 
-array-share-prefix-page : tie.Need-array-share-prefix-page
-array-share-prefix-page c = search needs
-
 slice-aggregate-put : tie.Need-slice-aggregate-put
 slice-aggregate-put c = length-of (made c) ∙ sym (ap length (text-of (made c)))
 
 put-requires : tie.Need-put-requires
 put-requires c κs = rw (text-of (made c)) (omega (arith, length-of (made c)))
-
-cast-t15 : tie.Need-cast-t15
-cast-t15 c = search needs
-
-same-length : tie.Need-same-length
-same-length c = search needs
 
 returns-2 : tie.Need-returns-2
 returns-2 c =
@@ -74,13 +59,13 @@ pub write-report-spec : {M : Type 1} → statement M
 write-report-spec =
     tie.close
     (tie.spec
-    slice-aggregate-put-text
-    recorded-figures-requires
+    (λ c. search needs)
+    (λ c κs. search needs)
     put-text-requires
     returns
-    array-share-prefix-page
+    (λ c. search needs)
     slice-aggregate-put
     put-requires
-    cast-t15
-    same-length
+    (λ c. search needs)
+    (λ c. search needs)
     returns-2)

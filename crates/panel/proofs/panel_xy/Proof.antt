@@ -9,21 +9,12 @@ use Rattle.panel.proofs.panel_xy.Tie as tie
 abbrev summed : tie.After-known-told → tie.After-panel-sums
 summed c = c .before .before .before
 
-panel-sums-requires : tie.Need-panel-sums-requires
-panel-sums-requires c κs = search needs
-
-enum-known-answer : tie.Need-enum-known-answer
-enum-known-answer c = search needs
-
 xy-from-requires : tie.Need-xy-from-requires
 xy-from-requires c κs =
     let p = summed c in
     let t = p .before .before .args in
     let w = worked (t .observer) (t .illuminant) (t .start) (t .step) (t .reflectances .now) (p .panel-sums .result) (p .panel-sums .ensures) _ (c .before .answer .given .1) in
     w .total-small
-
-enum-known-answer-2 : tie.Need-enum-known-answer-2
-enum-known-answer-2 c = search needs
 
 returns : tie.Need-returns
 unfolding panelXyOf
@@ -44,9 +35,9 @@ pub panel-xy-spec : {M : Type 1} → statement M
 panel-xy-spec =
     tie.close
     (tie.spec
-    panel-sums-requires
-    enum-known-answer
+    (λ c κs. search needs)
+    (λ c. search needs)
     xy-from-requires
-    enum-known-answer-2
+    (λ c. search needs)
     returns
     returns-2)

@@ -25,28 +25,10 @@ is-length bytes room answer e h = ap length-said e ∙ ap (λ (said : Said). val
 abbrev report : tie.After-slice-known2 → tie.After-write-report
 report c = c .before .before
 
-write-report-requires : tie.Need-write-report-requires
-write-report-requires c κs = search needs
-
-enum-known-length : tie.Need-enum-known-length
-enum-known-length c = search needs
-
-cast-result : tie.Need-cast-result
-cast-result c = search needs
-
-enum-told : tie.Need-enum-told
-enum-told c = search needs
-
-same-length : tie.Need-same-length
-same-length c = search needs
-
 returns : tie.Need-returns
 returns c =
     let asked = report (c .before .before .before) .write-report in
     (ap length-said (sym (c .before .length .given .1)) ∙ is-length _ _ _ (asked .ensures .0) (omega arith), asked .ensures .1)
-
-same-length-2 : tie.Need-same-length-2
-same-length-2 c = search needs
 
 returns-2 : tie.Need-returns-2
 returns-2 c =
@@ -57,11 +39,11 @@ pub report-length-spec : {M : Type 1} → statement M
 report-length-spec =
     tie.close
     (tie.spec
-    write-report-requires
-    enum-known-length
-    cast-result
-    enum-told
-    same-length
+    (λ c κs. search needs)
+    (λ c. search needs)
+    (λ c. search needs)
+    (λ c. search needs)
+    (λ c. search needs)
     returns
-    same-length-2
+    (λ c. search needs)
     returns-2)

@@ -18,12 +18,6 @@ part :
     (c : tie.After-begin-at-360) → let t = begin (c .before) .args in BegunLight (t .start) (t .step) (t .samples .now) (c .begin-at-360 .result)
 part c = record { light = light (c .before); begins = c .begin-at-360 .ensures }
 
-check-light-requires : tie.Need-check-light-requires
-check-light-requires c κs = search needs
-
-enum-told : tie.Need-enum-told
-enum-told c = search needs
-
 begin-at-360-requires : tie.Need-begin-at-360-requires
 begin-at-360-requires c κs = sought (light c)
 
@@ -36,20 +30,11 @@ sub-weighed c = in-row (part c)
 part-weighed-start : tie.Need-part-weighed-start
 part-weighed-start c = in-row (part c)
 
-part-weighed-end : tie.Need-part-weighed-end
-part-weighed-end c = search needs
-
 weighed-requires : tie.Need-weighed-requires
 weighed-requires c κs = part-begun (part (c .before))
 
 scale-requires : tie.Need-scale-requires
 scale-requires c κs = step-small (light (c .before .before .before))
-
-reading-from-requires : tie.Need-reading-from-requires
-reading-from-requires c κs = search needs
-
-enum-known-check : tie.Need-enum-known-check
-enum-known-check c = search needs
 
 returns : tie.Need-returns
 unfolding illuminanceOf
@@ -66,16 +51,16 @@ pub illuminance-spec : {M : Type 1} → statement M
 illuminance-spec =
     tie.close
     (tie.spec
-    check-light-requires
-    enum-told
+    (λ c κs. search needs)
+    (λ c. search needs)
     begin-at-360-requires
     mul-weighed
     sub-weighed
     part-weighed-start
-    part-weighed-end
+    (λ c. search needs)
     weighed-requires
     scale-requires
-    reading-from-requires
-    enum-known-check
+    (λ c κs. search needs)
+    (λ c. search needs)
     returns
     returns-2)

@@ -23,17 +23,8 @@ returns : tie.Need-returns
 unfolding mesopicOf
 returns c = rw (lt-leb (c .before .before .args .k) 1000 (c .if1 .taken))
 
-check-light-requires : tie.Need-check-light-requires
-check-light-requires c κs = search needs
-
-enum-told : tie.Need-enum-told
-enum-told c = search needs
-
 mesopic-of-light-requires : tie.Need-mesopic-of-light-requires
 mesopic-of-light-requires c κs = (c .before .before .before .if1 .left, fine c)
-
-enum-known-check : tie.Need-enum-known-check
-enum-known-check c = search needs
 
 returns-2 : tie.Need-returns-2
 unfolding mesopicOf
@@ -50,9 +41,9 @@ mesopic-spec =
     tie.close
     (tie.spec
     returns
-    check-light-requires
-    enum-told
+    (λ c κs. search needs)
+    (λ c. search needs)
     mesopic-of-light-requires
-    enum-known-check
+    (λ c. search needs)
     returns-2
     returns-3)

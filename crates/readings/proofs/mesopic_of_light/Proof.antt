@@ -51,35 +51,11 @@ sub-mesopic-weighed c = in-row (part c)
 part-mesopic-weighed-start : tie.Need-part-mesopic-weighed-start
 part-mesopic-weighed-start c = in-row (part c)
 
-part-mesopic-weighed-end : tie.Need-part-mesopic-weighed-end
-part-mesopic-weighed-end c = search needs
-
 mesopic-weighed-requires : tie.Need-mesopic-weighed-requires
 mesopic-weighed-requires c κs = (c .before .before .before .pre .0, part-begun (part (c .before)))
 
-mul-bracket : tie.Need-mul-bracket
-mul-bracket c = search needs
-
-sub-bracket : tie.Need-sub-bracket
-sub-bracket c = search needs
-
-mul-bracket-2 : tie.Need-mul-bracket-2
-mul-bracket-2 c = search needs
-
-add-bracket : tie.Need-add-bracket
-add-bracket c = search needs
-
 scale-requires : tie.Need-scale-requires
 scale-requires c κs = step-small (light (begin c))
-
-joined-requires : tie.Need-joined-requires
-joined-requires c κs = search needs
-
-short-times-plus-requires : tie.Need-short-times-plus-requires
-short-times-plus-requires c κs = search needs
-
-reading-from-requires : tie.Need-reading-from-requires
-reading-from-requires c κs = search needs
 
 returns : tie.Need-returns
 returns c =
@@ -94,14 +70,14 @@ mesopic-of-light-spec =
     mul-mesopic-weighed
     sub-mesopic-weighed
     part-mesopic-weighed-start
-    part-mesopic-weighed-end
+    (λ c. search needs)
     mesopic-weighed-requires
-    mul-bracket
-    sub-bracket
-    mul-bracket-2
-    add-bracket
+    (λ c. search needs)
+    (λ c. search needs)
+    (λ c. search needs)
+    (λ c. search needs)
     scale-requires
-    joined-requires
-    short-times-plus-requires
-    reading-from-requires
+    (λ c κs. search needs)
+    (λ c κs. search needs)
+    (λ c κs. search needs)
     returns)

@@ -51,15 +51,6 @@ checked c =
     ∙ ap (λ (n : ℕ). restCheck n (bytes answer) (length (row answer))) (sym (count answer))
     ∙ sym (c .read-body .ensures .0)
 
-read-header-requires : tie.Need-read-header-requires
-read-header-requires c κs = search needs
-
-enum-known-answer : tie.Need-enum-known-answer
-enum-known-answer c = search needs
-
-enum-told : tie.Need-enum-told
-enum-told c = search needs
-
 returns : tie.Need-returns
 returns c =
     let bytes = begin (c .before .before) .args .bytes .now in
@@ -69,24 +60,12 @@ returns c =
     let e = header-refused bytes refusal (answer-refused (headerCheck bytes) (header (startOf bytes) (stepOf bytes) (countOf bytes)) refusal answer) in
     (rw e told, rw e)
 
-cast-count : tie.Need-cast-count
-cast-count c = search needs
-
 read-body-requires : tie.Need-read-body-requires
 read-body-requires c κs =
     let answer = c .before .before .before in
     let fine = header-fine (bytes answer) (said answer .0) in
     let grid = accepted (startOf (bytes answer)) (stepOf (bytes answer)) (countOf (bytes answer)) (fine .grid) in
     (rw (count answer) (grid .some), rw (count answer) (grid .many))
-
-enum-told-2 : tie.Need-enum-told-2
-enum-told-2 c = search needs
-
-enum-known-refusal : tie.Need-enum-known-refusal
-enum-known-refusal c = search needs
-
-same-length : tie.Need-same-length
-same-length c = search needs
 
 returns-2 : tie.Need-returns-2
 returns-2 c =
@@ -99,9 +78,6 @@ returns-2 c =
       rw e (copied ∙ ap (λ (n : ℕ). samplesOf n (bytes answer) ++ drop n (row answer)) (count answer)),
     )
 
-same-length-2 : tie.Need-same-length-2
-same-length-2 c = search needs
-
 returns-3 : tie.Need-returns-3
 returns-3 c =
     let body = body-read (c .before .before .before) in
@@ -113,15 +89,15 @@ pub read-record-spec : {M : Type 1} → statement M
 read-record-spec =
     tie.close
     (tie.spec
-    read-header-requires
-    enum-known-answer
-    enum-told
+    (λ c κs. search needs)
+    (λ c. search needs)
+    (λ c. search needs)
     returns
-    cast-count
+    (λ c. search needs)
     read-body-requires
-    enum-told-2
-    enum-known-refusal
-    same-length
+    (λ c. search needs)
+    (λ c. search needs)
+    (λ c. search needs)
     returns-2
-    same-length-2
+    (λ c. search needs)
     returns-3)

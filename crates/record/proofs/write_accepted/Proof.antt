@@ -36,9 +36,6 @@ returns c =
 header-number-requires : tie.Need-header-number-requires
 header-number-requires c κs = let g = grid (begin (c .before)) in omega arith
 
-put-three-requires : tie.Need-put-three-requires
-put-three-requires c κs = search needs
-
 pack-requires : tie.Need-pack-requires
 pack-requires c κs =
     let start = begin (head c .before .before) in
@@ -46,9 +43,6 @@ pack-requires c κs =
 
 cast-t16 : tie.Need-cast-t16
 cast-t16 c = let g = grid (begin (head (c .before .before .before) .before .before)) in omega arith
-
-same-length : tie.Need-same-length
-same-length c = search needs
 
 returns-2 : tie.Need-returns-2
 returns-2 c =
@@ -73,8 +67,8 @@ write-accepted-spec =
     length-of-requires
     returns
     header-number-requires
-    put-three-requires
+    (λ c κs. search needs)
     pack-requires
     cast-t16
-    same-length
+    (λ c. search needs)
     returns-2)

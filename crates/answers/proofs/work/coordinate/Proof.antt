@@ -15,9 +15,6 @@ ratio c =
     let less : 100000 * short (c .before .args .part) ≤ 100000 * short (c .before .args .total) = mul-le-mul-left 100000 (c .before .pre) in
     nearest-bound 100000 (short (c .before .args .part) * 100000) (short (c .before .args .total)) (omega arith)
 
-nearest-requires : tie.Need-nearest-requires
-nearest-requires c κs = search needs
-
 cast-result : tie.Need-cast-result
 cast-result c = let h = ratio c in omega arith
 
@@ -25,4 +22,4 @@ returns : tie.Need-returns
 returns c = let h = ratio c in rw (mul-comm 100000 (short (c .before .args .part))) (omega arith)
 
 pub coordinate-spec : {M : Type 1} → statement M
-coordinate-spec = tie.close (tie.spec nearest-requires cast-result returns)
+coordinate-spec = tie.close (tie.spec (λ c κs. search needs) cast-result returns)

@@ -6,12 +6,9 @@ use borrow.Author.Needs.{needs}
 use Rattle.answers.proofs.work.coordinate_float.Statement.{statement}
 use Rattle.answers.proofs.work.coordinate_float.Tie as tie
 
-int-to-float-result : tie.Need-int-to-float-result
-int-to-float-result c = search needs
-
 returns : tie.Need-returns
 unfolding coordinateFloat ofInt ofBits
 returns c = refl
 
 pub coordinate-float-spec : {M : Type 1} → statement M
-coordinate-float-spec = tie.close (tie.spec int-to-float-result returns)
+coordinate-float-spec = tie.close (tie.spec (λ c. search needs) returns)

@@ -4,15 +4,6 @@ use borrow.Author.Needs.{needs}
 use Rattle.answers.proofs.work.on_chart.Statement.{statement}
 use Rattle.answers.proofs.work.on_chart.Tie as tie
 
-enum-known-xy : tie.Need-enum-known-xy
-enum-known-xy c = search needs
-
-chart-point-requires : tie.Need-chart-point-requires
-chart-point-requires c κs = search needs
-
-enum-told : tie.Need-enum-told
-enum-told c = search needs
-
 returns : tie.Need-returns
 unfolding onChart
 returns c = rw (c .before .before .xy .given .1, c .chart-point .ensures)
@@ -22,4 +13,4 @@ unfolding onChart
 returns-2 c = rw (c .enum-told .given .1)
 
 pub on-chart-spec : {M : Type 1} → statement M
-on-chart-spec = tie.close (tie.spec enum-known-xy chart-point-requires enum-told returns returns-2)
+on-chart-spec = tie.close (tie.spec (λ c. search needs) (λ c κs. search needs) (λ c. search needs) returns returns-2)

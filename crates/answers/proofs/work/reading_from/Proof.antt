@@ -5,12 +5,6 @@ use borrow.Author.Needs.{needs}
 use Rattle.answers.proofs.work.reading_from.Statement.{statement}
 use Rattle.answers.proofs.work.reading_from.Tie as tie
 
-nearest-requires : tie.Need-nearest-requires
-nearest-requires c κs = search needs
-
-cast-t7 : tie.Need-cast-t7
-cast-t7 c = search needs
-
 returns : tie.Need-returns
 unfolding readingFrom
 returns c = let q = reading-fits _ _ (c .before .nearest .ensures) (c .if1 .taken) in rw (q .0, q .1)
@@ -20,4 +14,4 @@ unfolding readingFrom
 returns-2 c = rw (reading-over _ _ (c .before .nearest .ensures) (c .if1 .left))
 
 pub reading-from-spec : {M : Type 1} → statement M
-reading-from-spec = tie.close (tie.spec nearest-requires cast-t7 returns returns-2)
+reading-from-spec = tie.close (tie.spec (λ c κs. search needs) (λ c. search needs) returns returns-2)

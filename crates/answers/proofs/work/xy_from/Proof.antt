@@ -16,24 +16,9 @@ exact-sum :
     short (begin c .args .sums .x) + short (begin c .args .sums .y) + short (begin c .args .sums .z) ≡ short (c .short-times-plus2 .result)
 exact-sum c = omega arith
 
-short-times-plus-requires : tie.Need-short-times-plus-requires
-short-times-plus-requires c κs = search needs
-
-short-times-plus-requires-2 : tie.Need-short-times-plus-requires-2
-short-times-plus-requires-2 c κs = search needs
-
-is-zero-requires : tie.Need-is-zero-requires
-is-zero-requires c κs = search needs
-
 returns : tie.Need-returns
 unfolding xyFrom
 returns c = rw (exact-sum (c .before .before), sym (c .before .is-zero .ensures) ∙ c .if1 .taken)
-
-coordinate-requires : tie.Need-coordinate-requires
-coordinate-requires c κs = search needs
-
-coordinate-requires-2 : tie.Need-coordinate-requires-2
-coordinate-requires-2 c κs = search needs
 
 returns-2 : tie.Need-returns-2
 unfolding xyFrom
@@ -45,10 +30,10 @@ pub xy-from-spec : {M : Type 1} → statement M
 xy-from-spec =
     tie.close
     (tie.spec
-    short-times-plus-requires
-    short-times-plus-requires-2
-    is-zero-requires
+    (λ c κs. search needs)
+    (λ c κs. search needs)
+    (λ c κs. search needs)
     returns
-    coordinate-requires
-    coordinate-requires-2
+    (λ c κs. search needs)
+    (λ c κs. search needs)
     returns-2)

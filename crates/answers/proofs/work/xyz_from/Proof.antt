@@ -6,24 +6,6 @@ use borrow.Author.Needs.{needs}
 use Rattle.answers.proofs.work.xyz_from.Statement.{statement}
 use Rattle.answers.proofs.work.xyz_from.Tie as tie
 
-nearest-requires : tie.Need-nearest-requires
-nearest-requires c κs = search needs
-
-nearest-requires-2 : tie.Need-nearest-requires-2
-nearest-requires-2 c κs = search needs
-
-nearest-requires-3 : tie.Need-nearest-requires-3
-nearest-requires-3 c κs = search needs
-
-cast-t13 : tie.Need-cast-t13
-cast-t13 c = search needs
-
-cast-t14 : tie.Need-cast-t14
-cast-t14 c = search needs
-
-cast-t15 : tie.Need-cast-t15
-cast-t15 c = search needs
-
 returns : tie.Need-returns
 unfolding xyzFrom
 returns c =
@@ -49,12 +31,12 @@ pub xyz-from-spec : {M : Type 1} → statement M
 xyz-from-spec =
     tie.close
     (tie.spec
-    nearest-requires
-    nearest-requires-2
-    nearest-requires-3
-    cast-t13
-    cast-t14
-    cast-t15
+    (λ c κs. search needs)
+    (λ c κs. search needs)
+    (λ c κs. search needs)
+    (λ c. search needs)
+    (λ c. search needs)
+    (λ c. search needs)
     returns
     returns-2
     returns-3

@@ -9,25 +9,10 @@ use Rattle.curves.proofs.lit.lit_sums.Tie as tie
 abbrev under : tie.After-low → tie.After-powers-of
 under c = c .before .before .before
 
-powers-of-requires : tie.Need-powers-of-requires
-powers-of-requires c κs = search needs
-
 split-requires : tie.Need-split-requires
 split-requires c κs =
     let s = under c .before in
     (refl, refl, rw (under c .powers-of .ensures) (power-bound (s .args .illuminant)), s .pre)
-
-curves-of-requires : tie.Need-curves-of-requires
-curves-of-requires c κs = search needs
-
-by-curve-requires : tie.Need-by-curve-requires
-by-curve-requires c κs = search needs
-
-by-curve-requires-2 : tie.Need-by-curve-requires-2
-by-curve-requires-2 c κs = search needs
-
-by-curve-requires-3 : tie.Need-by-curve-requires-3
-by-curve-requires-3 c κs = search needs
 
 returns : tie.Need-returns
 returns c =
@@ -49,10 +34,10 @@ pub lit-sums-spec : {M : Type 1} → statement M
 lit-sums-spec =
     tie.close
     (tie.spec
-    powers-of-requires
+    (λ c κs. search needs)
     split-requires
-    curves-of-requires
-    by-curve-requires
-    by-curve-requires-2
-    by-curve-requires-3
+    (λ c κs. search needs)
+    (λ c κs. search needs)
+    (λ c κs. search needs)
+    (λ c κs. search needs)
     returns)

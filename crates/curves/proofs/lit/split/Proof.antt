@@ -26,20 +26,8 @@ loop-holds c = (
   record { long = c .pre .1; filled = λ q h. absurd (omega arith) },
 )
 
-mul-product : tie.Need-mul-product Inv-loop μ-loop
-mul-product c = search needs
-
-element-copy-out-product : tie.Need-element-copy-out-product Inv-loop μ-loop
-element-copy-out-product c = search needs
-
 cast-product : tie.Need-cast-product Inv-loop μ-loop
 cast-product c = omega (arith, c .before .before .before .pre .2 (c .before .before .loop .k))
-
-mul-product-2 : tie.Need-mul-product-2 Inv-loop μ-loop
-mul-product-2 c = search needs
-
-element-copy-out-product-2 : tie.Need-element-copy-out-product-2 Inv-loop μ-loop
-element-copy-out-product-2 c = search needs
 
 -- the product as this turn works it
 module _ (c : tie.In-loop Inv-loop μ-loop) where
@@ -62,24 +50,6 @@ mul-product-3 : tie.Need-mul-product-3 Inv-loop μ-loop
 mul-product-3 c =
     let t = c .before .before in
     omega (arith, is t, product-small (ps t) (row t) (begun t .pre .2) (begun t .pre .3) (k t))
-
-mul-high : tie.Need-mul-high Inv-loop μ-loop
-mul-high c = search needs
-
-element-write-high : tie.Need-element-write-high Inv-loop μ-loop
-element-write-high c = search needs
-
-mul-low : tie.Need-mul-low Inv-loop μ-loop
-mul-low c = search needs
-
-element-write-low : tie.Need-element-write-low Inv-loop μ-loop
-element-write-low c = search needs
-
-add-k : tie.Need-add-k Inv-loop μ-loop
-add-k c = search needs
-
-loop-less : tie.Need-loop-less Inv-loop μ-loop
-loop-less c = search needs
 
 loop-again : tie.Need-loop-again Inv-loop μ-loop
 loop-again c =
@@ -112,17 +82,17 @@ split-spec =
     Inv-loop
     μ-loop
     loop-holds
-    mul-product
-    element-copy-out-product
+    (λ c. search needs)
+    (λ c. search needs)
     cast-product
-    mul-product-2
-    element-copy-out-product-2
+    (λ c. search needs)
+    (λ c. search needs)
     mul-product-3
-    mul-high
-    element-write-high
-    mul-low
-    element-write-low
-    add-k
-    loop-less
+    (λ c. search needs)
+    (λ c. search needs)
+    (λ c. search needs)
+    (λ c. search needs)
+    (λ c. search needs)
+    (λ c. search needs)
     loop-again
     returns)

@@ -6,65 +6,23 @@ use Rattle.curves.proofs.ByCurve.{summed-by}
 use Rattle.curves.proofs.summed.by_curve.Statement.{statement}
 use Rattle.curves.proofs.summed.by_curve.Tie as tie
 
-enum-told : tie.Need-enum-told
-enum-told c = search needs
-
-x-bar-requires : tie.Need-x-bar-requires
-x-bar-requires c κs = search needs
-
 sum-requires : tie.Need-sum-requires
 sum-requires c κs = let s = c .before .before .before .before in (rw (c .before .x-bar .ensures) (held XBar), s .pre .0, s .pre .1)
-
-enum-told-2 : tie.Need-enum-told-2
-enum-told-2 c = search needs
-
-y-bar-requires : tie.Need-y-bar-requires
-y-bar-requires c κs = search needs
 
 sum-requires-2 : tie.Need-sum-requires-2
 sum-requires-2 c κs = let s = c .before .before .before .before in (rw (c .before .y-bar .ensures) (held YBar), s .pre .0, s .pre .1)
 
-enum-told-3 : tie.Need-enum-told-3
-enum-told-3 c = search needs
-
-z-bar-requires : tie.Need-z-bar-requires
-z-bar-requires c κs = search needs
-
 sum-requires-3 : tie.Need-sum-requires-3
 sum-requires-3 c κs = let s = c .before .before .before .before in (rw (c .before .z-bar .ensures) (held ZBar), s .pre .0, s .pre .1)
-
-enum-told-4 : tie.Need-enum-told-4
-enum-told-4 c = search needs
-
-x-bar-10-requires : tie.Need-x-bar-10-requires
-x-bar-10-requires c κs = search needs
 
 sum-requires-4 : tie.Need-sum-requires-4
 sum-requires-4 c κs = let s = c .before .before .before .before in (rw (c .before .x-bar-10 .ensures) (held XBar10), s .pre .0, s .pre .1)
 
-enum-told-5 : tie.Need-enum-told-5
-enum-told-5 c = search needs
-
-y-bar-10-requires : tie.Need-y-bar-10-requires
-y-bar-10-requires c κs = search needs
-
 sum-requires-5 : tie.Need-sum-requires-5
 sum-requires-5 c κs = let s = c .before .before .before .before in (rw (c .before .y-bar-10 .ensures) (held YBar10), s .pre .0, s .pre .1)
 
-enum-told-6 : tie.Need-enum-told-6
-enum-told-6 c = search needs
-
-z-bar-10-requires : tie.Need-z-bar-10-requires
-z-bar-10-requires c κs = search needs
-
 sum-requires-6 : tie.Need-sum-requires-6
 sum-requires-6 c κs = let s = c .before .before .before .before in (rw (c .before .z-bar-10 .ensures) (held ZBar10), s .pre .0, s .pre .1)
-
-enum-told-7 : tie.Need-enum-told-7
-enum-told-7 c = search needs
-
-v-prime-requires : tie.Need-v-prime-requires
-v-prime-requires c κs = search needs
 
 sum-requires-7 : tie.Need-sum-requires-7
 sum-requires-7 c κs = let s = c .before .before .before .before in (rw (c .before .v-prime .ensures) (held VPrime), s .pre .0, s .pre .1)
@@ -94,26 +52,26 @@ pub by-curve-spec : {M : Type 1} → statement M
 by-curve-spec =
     tie.close
     (tie.spec
-    enum-told
-    x-bar-requires
+    (λ c. search needs)
+    (λ c κs. search needs)
     sum-requires
-    enum-told-2
-    y-bar-requires
+    (λ c. search needs)
+    (λ c κs. search needs)
     sum-requires-2
-    enum-told-3
-    z-bar-requires
+    (λ c. search needs)
+    (λ c κs. search needs)
     sum-requires-3
-    enum-told-4
-    x-bar-10-requires
+    (λ c. search needs)
+    (λ c κs. search needs)
     sum-requires-4
-    enum-told-5
-    y-bar-10-requires
+    (λ c. search needs)
+    (λ c κs. search needs)
     sum-requires-5
-    enum-told-6
-    z-bar-10-requires
+    (λ c. search needs)
+    (λ c κs. search needs)
     sum-requires-6
-    enum-told-7
-    v-prime-requires
+    (λ c. search needs)
+    (λ c κs. search needs)
     sum-requires-7
     returns
     returns-2

@@ -8,21 +8,6 @@ use Rattle.curves.proofs.Rows.{one-stretch-more}
 use Rattle.curves.proofs.summed.row_sum.Statement.{statement}
 use Rattle.curves.proofs.summed.row_sum.Tie as tie
 
-joined-requires : tie.Need-joined-requires
-joined-requires c κs = search needs
-
-with-stretch-requires : tie.Need-with-stretch-requires
-with-stretch-requires c κs = search needs
-
-with-stretch-requires-2 : tie.Need-with-stretch-requires-2
-with-stretch-requires-2 c κs = search needs
-
-with-stretch-requires-3 : tie.Need-with-stretch-requires-3
-with-stretch-requires-3 c κs = search needs
-
-with-stretch-requires-4 : tie.Need-with-stretch-requires-4
-with-stretch-requires-4 c κs = search needs
-
 returns : tie.Need-returns
 unfolding weighted total
 returns c =
@@ -45,9 +30,9 @@ pub row-sum-spec : {M : Type 1} → statement M
 row-sum-spec =
     tie.close
     (tie.spec
-    joined-requires
-    with-stretch-requires
-    with-stretch-requires-2
-    with-stretch-requires-3
-    with-stretch-requires-4
+    (λ c κs. search needs)
+    (λ c κs. search needs)
+    (λ c κs. search needs)
+    (λ c κs. search needs)
+    (λ c κs. search needs)
     returns)

@@ -4,15 +4,6 @@ use Rattle.curves.proofs.Rows.{both-rows}
 use Rattle.curves.proofs.summed.sum.Statement.{statement}
 use Rattle.curves.proofs.summed.sum.Tie as tie
 
-row-sum-requires : tie.Need-row-sum-requires
-row-sum-requires c κs = search needs
-
-row-sum-requires-2 : tie.Need-row-sum-requires-2
-row-sum-requires-2 c κs = search needs
-
-short-times-plus-requires : tie.Need-short-times-plus-requires
-short-times-plus-requires c κs = search needs
-
 returns : tie.Need-returns
 returns c =
     let upper = c .before in
@@ -29,4 +20,4 @@ returns-2 : tie.Need-returns-2
 returns-2 c = rw (c .if1 .left) (c .before .row-sum .ensures)
 
 pub sum-spec : {M : Type 1} → statement M
-sum-spec = tie.close (tie.spec row-sum-requires row-sum-requires-2 short-times-plus-requires returns returns-2)
+sum-spec = tie.close (tie.spec (λ c κs. search needs) (λ c κs. search needs) (λ c κs. search needs) returns returns-2)

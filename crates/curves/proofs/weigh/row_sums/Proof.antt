@@ -3,18 +3,6 @@ use borrow.Author.Needs.{needs}
 use Rattle.curves.proofs.weigh.row_sums.Statement.{statement}
 use Rattle.curves.proofs.weigh.row_sums.Tie as tie
 
-curves-of-requires : tie.Need-curves-of-requires
-curves-of-requires c κs = search needs
-
-weigh-requires : tie.Need-weigh-requires
-weigh-requires c κs = search needs
-
-weigh-requires-2 : tie.Need-weigh-requires-2
-weigh-requires-2 c κs = search needs
-
-weigh-requires-3 : tie.Need-weigh-requires-3
-weigh-requires-3 c κs = search needs
-
 returns : tie.Need-returns
 returns c =
     let curves = c .before .before .before .curves-of .ensures in
@@ -25,4 +13,4 @@ returns c =
     }
 
 pub row-sums-spec : {M : Type 1} → statement M
-row-sums-spec = tie.close (tie.spec curves-of-requires weigh-requires weigh-requires-2 weigh-requires-3 returns)
+row-sums-spec = tie.close (tie.spec (λ c κs. search needs) (λ c κs. search needs) (λ c κs. search needs) (λ c κs. search needs) returns)

@@ -21,8 +21,5 @@ add-result c = let h = product c in omega arith
 add-result-2 : tie.Need-add-result-2
 add-result-2 c = let h = product c in omega arith
 
-returns : tie.Need-returns
-returns c = search needs
-
 pub digit-spec : {M : Type 1} → statement M
-digit-spec = tie.close (tie.spec mul-result add-result add-result-2 returns)
+digit-spec = tie.close (tie.spec mul-result add-result add-result-2 (λ c. search needs))

@@ -31,9 +31,6 @@ alone : (c : tie.After-struct-known) → short (begin c .args .d) ≡ c .before 
 unfolding short
 alone c = omega arith
 
-pair-requires : tie.Need-pair-requires
-pair-requires c κs = search needs
-
 div-result : tie.Need-div-result
 div-result c = omega (arith, alone c, begin c .pre)
 
@@ -42,24 +39,6 @@ unfolding long
 returns c =
     let n = begin c .args .n in
     leading 1 (n .low) (c .before .pair .result) (long n) (short (begin c .args .d)) (low-fits (n .high) (n .low)) (omega (arith, alone c))
-
-returns-2 : tie.Need-returns-2
-returns-2 c = search needs
-
-mul-result : tie.Need-mul-result
-mul-result c = search needs
-
-add-result : tie.Need-add-result
-add-result c = search needs
-
-pair-requires-2 : tie.Need-pair-requires-2
-pair-requires-2 c κs = search needs
-
-add-result-2 : tie.Need-add-result-2
-add-result-2 c = search needs
-
-div-result-2 : tie.Need-div-result-2
-div-result-2 c = search needs
 
 returns-3 : tie.Need-returns-3
 unfolding short long
@@ -70,15 +49,6 @@ returns-3 c =
     let d = start .args .d in
     leading (2 ^ 33) (n .high * 2147483648 + n .low / 8589934592) (c .pair2 .result / 2 + 1) (long n) (short d)
     (middle-fits (n .high) (n .low)) (rw (c .pair2 .ensures) (middle-holds (d .high) (d .middle) (d .low) (omega arith)))
-
-cast-result : tie.Need-cast-result
-cast-result c = search needs
-
-add-result-3 : tie.Need-add-result-3
-add-result-3 c = search needs
-
-div-result-3 : tie.Need-div-result-3
-div-result-3 c = search needs
 
 returns-4 : tie.Need-returns-4
 unfolding short long
@@ -92,17 +62,17 @@ pub leading-spec : {M : Type 1} → statement M
 leading-spec =
     tie.close
     (tie.spec
-    pair-requires
+    (λ c κs. search needs)
     div-result
     returns
-    returns-2
-    mul-result
-    add-result
-    pair-requires-2
-    add-result-2
-    div-result-2
+    (λ c. search needs)
+    (λ c. search needs)
+    (λ c. search needs)
+    (λ c κs. search needs)
+    (λ c. search needs)
+    (λ c. search needs)
     returns-3
-    cast-result
-    add-result-3
-    div-result-3
+    (λ c. search needs)
+    (λ c. search needs)
+    (λ c. search needs)
     returns-4)

@@ -44,15 +44,6 @@ sub-t7 : tie.Need-sub-t7
 unfolding long
 sub-t7 c = let start = begin (borrowed c .before) in left-over (2 ^ 64) _ _ _ _ (a-low start) (start .pre) (borrowed c .if1 .left)
 
-sub-t8 : tie.Need-sub-t8
-sub-t8 c = search needs
-
-add-t9 : tie.Need-add-t9
-add-t9 c = search needs
-
-add-t10 : tie.Need-add-t10
-add-t10 c = search needs
-
 returns-2 : tie.Need-returns-2
 unfolding long
 returns-2 c =
@@ -61,4 +52,4 @@ returns-2 c =
     difference-borrowed (2 ^ 64) _ _ _ _ (a-low start) (start .pre) 18446744073709551615 refl (more .if1 .left) (b-low start)
 
 pub minus-spec : {M : Type 1} → statement M
-minus-spec = tie.close (tie.spec sub-t4 returns sub-t6 sub-t7 sub-t8 add-t9 add-t10 returns-2)
+minus-spec = tie.close (tie.spec sub-t4 returns sub-t6 sub-t7 (λ c. search needs) (λ c. search needs) (λ c. search needs) returns-2)

@@ -92,9 +92,6 @@ at-most-requires-3 c κs = tt
 estimate-requires : tie.Need-estimate-requires Inv-loop μ-loop
 estimate-requires c κs = (divisor-some (divisible (c .before .before)), fits c)
 
-cast-q : tie.Need-cast-q Inv-loop μ-loop
-cast-q c = search needs
-
 add-q : tie.Need-add-q Inv-loop μ-loop
 add-q c =
     let s = turn c in
@@ -139,7 +136,7 @@ quotient-spec =
     loop-holds
     at-most-requires-3
     estimate-requires
-    cast-q
+    (λ c. search needs)
     add-q
     times-plus-requires
     minus-requires

@@ -5,15 +5,9 @@ use borrow.Author.Needs.{needs}
 use Rattle.exact.proofs.divide.whole.Statement.{statement}
 use Rattle.exact.proofs.divide.whole.Tie as tie
 
-cast-t2 : tie.Need-cast-t2
-cast-t2 c = search needs
-
-pair-requires : tie.Need-pair-requires
-pair-requires c κs = search needs
-
 returns : tie.Need-returns
 unfolding short long
 returns c = omega arith
 
 pub whole-spec : {M : Type 1} → statement M
-whole-spec = tie.close (tie.spec cast-t2 pair-requires returns)
+whole-spec = tie.close (tie.spec (λ c. search needs) (λ c κs. search needs) returns)

@@ -4,11 +4,8 @@ use borrow.Author.Needs.{needs}
 use Rattle.many.proofs.made.place_in.Statement.{statement}
 use Rattle.many.proofs.made.place_in.Tie as tie
 
-rem-result : tie.Need-rem-result
-rem-result c = search needs
-
 returns : tie.Need-returns
 returns c = mod-lt _ (c .pre)
 
 pub place-in-spec : {M : Type 1} → statement M
-place-in-spec = tie.close (tie.spec rem-result returns)
+place-in-spec = tie.close (tie.spec (λ c. search needs) returns)

@@ -16,14 +16,5 @@ no-nan (fin s m e) y t = tt
 float-to-bits-pattern : tie.Need-float-to-bits-pattern
 float-to-bits-pattern c = no-nan (c .before .args .x) _ (subst T (sym (c .if1 .taken)) tt)
 
-print-decimal-requires : tie.Need-print-decimal-requires
-print-decimal-requires c κs = search needs
-
-returns : tie.Need-returns
-returns c = search needs
-
-returns-2 : tie.Need-returns-2
-returns-2 c = search needs
-
 pub bits-spec : {M : Type 1} → statement M
-bits-spec = tie.close (tie.spec float-to-bits-pattern print-decimal-requires returns returns-2)
+bits-spec = tie.close (tie.spec float-to-bits-pattern (λ c κs. search needs) (λ c. search needs) (λ c. search needs))

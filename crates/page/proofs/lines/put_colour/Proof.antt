@@ -24,42 +24,21 @@ first c = c .before .before .before .before
 abbrev coloured : tie.After-put-line → tie.After-xy
 coloured c = c .before .before .before .before
 
-enum-known-xy : tie.Need-enum-known-xy
-enum-known-xy c = search needs
-
-slice-aggregate-put-line : tie.Need-slice-aggregate-put-line
-slice-aggregate-put-line c = search needs
-
 put-line-requires : tie.Need-put-line-requires
 put-line-requires c κs = omega (arith, long _ _ (c .before .before .before .xy .given .1))
-
-slice-aggregate-put-line-2 : tie.Need-slice-aggregate-put-line-2
-slice-aggregate-put-line-2 c = search needs
 
 put-line-requires-2 : tie.Need-put-line-requires-2
 put-line-requires-2 c κs = omega (arith, long _ _ (coloured (first c) .xy .given .1))
 
-enum-told : tie.Need-enum-told
-enum-told c = search needs
-
-slice-aggregate-put : tie.Need-slice-aggregate-put
-slice-aggregate-put c = search needs
-
 put-requires : tie.Need-put-requires
 unfolding colourLines line
 put-requires c κs = let dark = c .before .before in rw (dark .enum-told .given .1) at (dark .before .before .before .pre)
-
-same-length : tie.Need-same-length
-same-length c = search needs
 
 returns : tie.Need-returns
 unfolding colourLines
 returns c =
     let x = first (c .before .before .before) in
     rw (coloured x .xy .given .1) (joined (x .put-line .ensures) (c .before .before .put-line2 .ensures))
-
-same-length-2 : tie.Need-same-length-2
-same-length-2 c = search needs
 
 returns-2 : tie.Need-returns-2
 unfolding colourLines line
@@ -69,15 +48,15 @@ pub put-colour-spec : {M : Type 1} → statement M
 put-colour-spec =
     tie.close
     (tie.spec
-    enum-known-xy
-    slice-aggregate-put-line
+    (λ c. search needs)
+    (λ c. search needs)
     put-line-requires
-    slice-aggregate-put-line-2
+    (λ c. search needs)
     put-line-requires-2
-    enum-told
-    slice-aggregate-put
+    (λ c. search needs)
+    (λ c. search needs)
     put-requires
-    same-length
+    (λ c. search needs)
     returns
-    same-length-2
+    (λ c. search needs)
     returns-2)

@@ -26,36 +26,21 @@ fourth c = c .before .before .before .before .before
 abbrev fifth : tie.After-slice-known6 → tie.After-slice-known5
 fifth c = c .before .before .before .before .before
 
-slice-aggregate-put-line : tie.Need-slice-aggregate-put-line
-slice-aggregate-put-line c = search needs
-
 put-line-requires : tie.Need-put-line-requires
 unfolding figureLines
 put-line-requires c κs = let room = simp length-append at (begin c .pre) in omega arith
-
-slice-aggregate-put-line-2 : tie.Need-slice-aggregate-put-line-2
-slice-aggregate-put-line-2 c = search needs
 
 put-line-requires-2 : tie.Need-put-line-requires-2
 unfolding figureLines
 put-line-requires-2 c κs = let room = simp length-append at (begin (first (c .before .before)) .pre) in omega arith
 
-slice-aggregate-put-line-3 : tie.Need-slice-aggregate-put-line-3
-slice-aggregate-put-line-3 c = search needs
-
 put-line-requires-3 : tie.Need-put-line-requires-3
 unfolding figureLines
 put-line-requires-3 c κs = let room = simp length-append at (begin (first (second (c .before .before))) .pre) in omega arith
 
-slice-aggregate-put-line-4 : tie.Need-slice-aggregate-put-line-4
-slice-aggregate-put-line-4 c = search needs
-
 put-line-requires-4 : tie.Need-put-line-requires-4
 unfolding figureLines
 put-line-requires-4 c κs = let room = simp length-append at (begin (first (second (third (c .before .before)))) .pre) in omega arith
-
-slice-aggregate-put-line-5 : tie.Need-slice-aggregate-put-line-5
-slice-aggregate-put-line-5 c = search needs
 
 put-line-requires-5 : tie.Need-put-line-requires-5
 unfolding figureLines
@@ -64,9 +49,6 @@ put-line-requires-5 c κs = let room = simp length-append at (begin (first (seco
 put-colour-requires : tie.Need-put-colour-requires
 unfolding figureLines
 put-colour-requires c κs = let room = simp length-append at (begin (first (second (third (fourth (fifth (c .before)))))) .pre) in omega arith
-
-same-length : tie.Need-same-length
-same-length c = search needs
 
 returns : tie.Need-returns
 unfolding figureLines
@@ -91,16 +73,16 @@ pub put-figures-spec : {M : Type 1} → statement M
 put-figures-spec =
     tie.close
     (tie.spec
-    slice-aggregate-put-line
+    (λ c. search needs)
     put-line-requires
-    slice-aggregate-put-line-2
+    (λ c. search needs)
     put-line-requires-2
-    slice-aggregate-put-line-3
+    (λ c. search needs)
     put-line-requires-3
-    slice-aggregate-put-line-4
+    (λ c. search needs)
     put-line-requires-4
-    slice-aggregate-put-line-5
+    (λ c. search needs)
     put-line-requires-5
     put-colour-requires
-    same-length
+    (λ c. search needs)
     returns)

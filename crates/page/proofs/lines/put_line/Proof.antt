@@ -24,15 +24,9 @@ put-shown-requires : tie.Need-put-shown-requires
 unfolding line
 put-shown-requires c κs = let room = simp length-append at (begin (c .before .before .before) .pre) in omega arith
 
-slice-aggregate-put : tie.Need-slice-aggregate-put
-slice-aggregate-put c = search needs
-
 put-requires-2 : tie.Need-put-requires-2
 unfolding line
 put-requires-2 c κs = let room = simp length-append at (begin (word (shown c)) .pre) in omega arith
-
-same-length : tie.Need-same-length
-same-length c = search needs
 
 returns : tie.Need-returns
 unfolding line
@@ -46,7 +40,7 @@ put-line-spec =
     (tie.spec
     put-requires
     put-shown-requires
-    slice-aggregate-put
+    (λ c. search needs)
     put-requires-2
-    same-length
+    (λ c. search needs)
     returns)

@@ -37,27 +37,15 @@ refusal c = begin (number c) .args .refusal
 abbrev between : tie.After-struct-known3 → tie.After-put
 between c = c .before .before .before .before
 
-cast-put-number : tie.Need-cast-put-number
-cast-put-number c = search needs
-
 put-number-requires : tie.Need-put-number-requires
 unfolding numbered
 put-number-requires c κs = let room = simp length-append at (c .before .before .before .pre) in omega arith
 
-slice-aggregate-put : tie.Need-slice-aggregate-put
-slice-aggregate-put c = search needs
-
 put-requires : tie.Need-put-requires
 put-requires c κs = let taken = c .before .before in omega (arith, long (refusal (taken .before)) (taken .if1 .taken))
 
-cast-put-number-2 : tie.Need-cast-put-number-2
-cast-put-number-2 c = search needs
-
 put-number-requires-2 : tie.Need-put-number-requires-2
 put-number-requires-2 c κs = let taken = between c .before .before .before in omega (arith, long (refusal (taken .before)) (taken .if1 .taken))
-
-same-length : tie.Need-same-length
-same-length c = search needs
 
 returns : tie.Need-returns
 returns c =
@@ -66,9 +54,6 @@ returns c =
     rw (placed (refusal (taken .before)) (taken .if1 .taken))
     (joined (number (taken .before) .put-number .ensures) (joined (word .put .ensures) (c .before .before .put-number2 .ensures)))
 
-same-length-2 : tie.Need-same-length-2
-same-length-2 c = search needs
-
 returns-2 : tie.Need-returns-2
 returns-2 c = rw (unplaced (refusal (c .before)) (c .if1 .left)) (number (c .before) .put-number .ensures)
 
@@ -76,13 +61,13 @@ pub put-refusal-spec : {M : Type 1} → statement M
 put-refusal-spec =
     tie.close
     (tie.spec
-    cast-put-number
+    (λ c. search needs)
     put-number-requires
-    slice-aggregate-put
+    (λ c. search needs)
     put-requires
-    cast-put-number-2
+    (λ c. search needs)
     put-number-requires-2
-    same-length
+    (λ c. search needs)
     returns
-    same-length-2
+    (λ c. search needs)
     returns-2)

@@ -13,34 +13,13 @@ begin c = c .before .before .before .before .before .before
 abbrev whole-part : tie.After-places → tie.After-put-number
 whole-part c = c .before .before .before .before
 
-digit-requires : tie.Need-digit-requires
-digit-requires c κs = search needs
-
-digit-requires-2 : tie.Need-digit-requires-2
-digit-requires-2 c κs = search needs
-
-digit-requires-3 : tie.Need-digit-requires-3
-digit-requires-3 c κs = search needs
-
-digit-requires-4 : tie.Need-digit-requires-4
-digit-requires-4 c κs = search needs
-
-digit-requires-5 : tie.Need-digit-requires-5
-digit-requires-5 c κs = search needs
-
 put-number-requires : tie.Need-put-number-requires
 unfolding coordinate
 put-number-requires c κs = let room = simp length-append at (begin (c .before) .pre) in omega arith
 
-slice-aggregate-put : tie.Need-slice-aggregate-put
-slice-aggregate-put c = search needs
-
 put-requires : tie.Need-put-requires
 unfolding coordinate
 put-requires c κs = let room = simp length-append at (begin (whole-part c .before .before) .pre) in omega arith
-
-same-length : tie.Need-same-length
-same-length c = search needs
 
 returns : tie.Need-returns
 unfolding coordinate
@@ -56,13 +35,13 @@ pub put-coordinate-spec : {M : Type 1} → statement M
 put-coordinate-spec =
     tie.close
     (tie.spec
-    digit-requires
-    digit-requires-2
-    digit-requires-3
-    digit-requires-4
-    digit-requires-5
+    (λ c κs. search needs)
+    (λ c κs. search needs)
+    (λ c κs. search needs)
+    (λ c κs. search needs)
+    (λ c κs. search needs)
     put-number-requires
-    slice-aggregate-put
+    (λ c. search needs)
     put-requires
-    same-length
+    (λ c. search needs)
     returns)

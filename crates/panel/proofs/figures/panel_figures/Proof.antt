@@ -9,12 +9,6 @@ use Rattle.panel.proofs.figures.panel_figures.Tie as tie
 abbrev summed : tie.After-known-told → tie.After-panel-sums
 summed c = c .before .before .before
 
-panel-sums-requires : tie.Need-panel-sums-requires
-panel-sums-requires c κs = search needs
-
-enum-known-answer : tie.Need-enum-known-answer
-enum-known-answer c = search needs
-
 divisor-requires : tie.Need-divisor-requires
 divisor-requires c κs =
     let p = summed c in
@@ -28,9 +22,6 @@ figures-from-requires c κs =
     let t = p .before .before .args in
     let w = worked (t .observer) (t .illuminant) (t .start) (t .step) (t .reflectances .now) (p .panel-sums .result) (p .panel-sums .ensures) _ (c .before .before .answer .given .1) in
     w .total-small
-
-enum-known-answer-2 : tie.Need-enum-known-answer-2
-enum-known-answer-2 c = search needs
 
 returns : tie.Need-returns
 unfolding panelXyzOf panelXyOf
@@ -51,10 +42,10 @@ pub panel-figures-spec : {M : Type 1} → statement M
 panel-figures-spec =
     tie.close
     (tie.spec
-    panel-sums-requires
-    enum-known-answer
+    (λ c κs. search needs)
+    (λ c. search needs)
     divisor-requires
     figures-from-requires
-    enum-known-answer-2
+    (λ c. search needs)
     returns
     returns-2)

@@ -19,9 +19,6 @@ few s = let p = s .pre .part in let more : 1 * (length (s .args .part .now) - 1)
 widen-requires : tie.Need-widen-requires
 widen-requires c κs = (few (c .before .before), refl)
 
-unmeasured-requires : tie.Need-unmeasured-requires
-unmeasured-requires c κs = search needs
-
 array-share-prefix-wide : tie.Need-array-share-prefix-wide
 array-share-prefix-wide c = rw (c .before .widen .ensures .long) (few (begin (c .before)))
 
@@ -36,9 +33,6 @@ lay-requires c κs =
 
 abbrev widened : tie.After-lay → tie.After-widen
 widened c = c .before .before .before .before
-
-illuminant-of-requires : tie.Need-illuminant-of-requires
-illuminant-of-requires c κs = search needs
 
 lit-sums-requires : tie.Need-lit-sums-requires
 lit-sums-requires c κs =
@@ -59,10 +53,10 @@ part-sums-spec =
     tie.close
     (tie.spec
     widen-requires
-    unmeasured-requires
+    (λ c κs. search needs)
     array-share-prefix-wide
     slice-aggregate-lay
     lay-requires
-    illuminant-of-requires
+    (λ c κs. search needs)
     lit-sums-requires
     returns)

@@ -6,17 +6,8 @@ use borrow.Author.Needs.{needs}
 use Rattle.panel.proofs.reflectances.check_reflectances.Statement.{statement}
 use Rattle.panel.proofs.reflectances.check_reflectances.Tie as tie
 
-no-fault-requires : tie.Need-no-fault-requires
-no-fault-requires c κs = search needs
-
 returns : tie.Need-returns
 returns c = sym (within-fine 8 10000 0 (c .before .before .before .args .reflectances .now) (c .before .no-fault .ensures (c .if1 .taken)))
-
-widen-requires : tie.Need-widen-requires
-widen-requires c κs = search needs
-
-array-share-prefix-wide : tie.Need-array-share-prefix-wide
-array-share-prefix-wide c = search needs
 
 slice-aggregate-check-limit : tie.Need-slice-aggregate-check-limit
 slice-aggregate-check-limit c = ap length (sym (c .before .widen .ensures .first))
@@ -31,10 +22,10 @@ pub check-reflectances-spec : {M : Type 1} → statement M
 check-reflectances-spec =
     tie.close
     (tie.spec
-    no-fault-requires
+    (λ c κs. search needs)
     returns
-    widen-requires
-    array-share-prefix-wide
+    (λ c κs. search needs)
+    (λ c. search needs)
     slice-aggregate-check-limit
     check-limit-requires
     returns-2)

@@ -18,17 +18,11 @@ abbrev μ-loop : tie.MeasureT-loop
 loop-holds : tie.Need-loop-holds Inv-loop μ-loop
 loop-holds c = (omega arith, record { long = c .pre .1; filled = λ q h. absurd (omega arith) })
 
-mul-wide : tie.Need-mul-wide Inv-loop μ-loop
-mul-wide c = search needs
-
 shared-slice-read-wide : tie.Need-shared-slice-read-wide Inv-loop μ-loop
 shared-slice-read-wide c = omega arith
 
 cast-wide : tie.Need-cast-wide Inv-loop μ-loop
 cast-wide c = omega (arith, c .shared-slice-known .given (c .before .before .loop .k))
-
-mul-wide-2 : tie.Need-mul-wide-2 Inv-loop μ-loop
-mul-wide-2 c = search needs
 
 element-write-wide : tie.Need-element-write-wide Inv-loop μ-loop
 element-write-wide c = omega arith
@@ -64,10 +58,10 @@ widen-spec =
     Inv-loop
     μ-loop
     loop-holds
-    mul-wide
+    (λ c. search needs)
     shared-slice-read-wide
     cast-wide
-    mul-wide-2
+    (λ c. search needs)
     element-write-wide
     add-k
     loop-less

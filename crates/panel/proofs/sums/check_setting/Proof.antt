@@ -6,21 +6,9 @@ use borrow.Author.Needs.{needs}
 use Rattle.panel.proofs.sums.check_setting.Statement.{statement}
 use Rattle.panel.proofs.sums.check_setting.Tie as tie
 
-is-observer-requires : tie.Need-is-observer-requires
-is-observer-requires c κs = search needs
-
-refused-requires : tie.Need-refused-requires
-refused-requires c κs = search needs
-
 returns : tie.Need-returns
 unfolding settingCheck
 returns c = rw (sym (c .before .before .is-observer .ensures) ∙ not-true _ (c .before .if1 .taken)) (c .refused .ensures)
-
-is-illuminant-requires : tie.Need-is-illuminant-requires
-is-illuminant-requires c κs = search needs
-
-refused-requires-2 : tie.Need-refused-requires-2
-refused-requires-2 c κs = search needs
 
 returns-2 : tie.Need-returns-2
 unfolding settingCheck
@@ -30,9 +18,6 @@ returns-2 c =
       sym (c .before .before .is-illuminant .ensures) ∙ not-true _ (c .before .if2 .taken),
     )
     (c .refused2 .ensures)
-
-check-grid-requires : tie.Need-check-grid-requires
-check-grid-requires c κs = search needs
 
 returns-3 : tie.Need-returns-3
 unfolding settingCheck
@@ -47,11 +32,11 @@ pub check-setting-spec : {M : Type 1} → statement M
 check-setting-spec =
     tie.close
     (tie.spec
-    is-observer-requires
-    refused-requires
+    (λ c κs. search needs)
+    (λ c κs. search needs)
     returns
-    is-illuminant-requires
-    refused-requires-2
+    (λ c κs. search needs)
+    (λ c κs. search needs)
     returns-2
-    check-grid-requires
+    (λ c κs. search needs)
     returns-3)

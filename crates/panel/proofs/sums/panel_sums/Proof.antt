@@ -46,17 +46,8 @@ in-row c =
     let told = setting (c .before) in
     few (start told .args .start) (start told .args .step) (given told) (on-grid told) (c .begin-at-360 .result) (c .begin-at-360 .ensures)
 
-check-setting-requires : tie.Need-check-setting-requires
-check-setting-requires c κs = search needs
-
-enum-told : tie.Need-enum-told
-enum-told c = search needs
-
 check-reflectances-requires : tie.Need-check-reflectances-requires
 check-reflectances-requires c κs = on-grid c .many
-
-enum-told-2 : tie.Need-enum-told-2
-enum-told-2 c = search needs
 
 begin-at-360-requires : tie.Need-begin-at-360-requires
 begin-at-360-requires c κs = let on = on-grid (setting c) in (on .step-low, on .start-high)
@@ -70,9 +61,6 @@ sub-part-sums c = in-row c
 part-part-sums-start : tie.Need-part-part-sums-start
 part-part-sums-start c = in-row c
 
-part-part-sums-end : tie.Need-part-part-sums-end
-part-part-sums-end c = search needs
-
 part-sums-requires : tie.Need-part-sums-requires
 part-sums-requires c κs =
     let begin = c .before in
@@ -80,12 +68,6 @@ part-sums-requires c κs =
     let rs = given told in
     begun (start told .args .start) (start told .args .step) rs (on-grid told) (begin .begin-at-360 .result) (begin .begin-at-360 .ensures) 10000
     (fine-within 8 10000 0 rs (reflectances-fine (begin .before)))
-
-enum-known-limit : tie.Need-enum-known-limit
-enum-known-limit c = search needs
-
-enum-known-setting : tie.Need-enum-known-setting
-enum-known-setting c = search needs
 
 returns : tie.Need-returns
 unfolding SumsOf
@@ -117,18 +99,18 @@ pub panel-sums-spec : {M : Type 1} → statement M
 panel-sums-spec =
     tie.close
     (tie.spec
-    check-setting-requires
-    enum-told
+    (λ c κs. search needs)
+    (λ c. search needs)
     check-reflectances-requires
-    enum-told-2
+    (λ c. search needs)
     begin-at-360-requires
     mul-part-sums
     sub-part-sums
     part-part-sums-start
-    part-part-sums-end
+    (λ c. search needs)
     part-sums-requires
-    enum-known-limit
-    enum-known-setting
+    (λ c. search needs)
+    (λ c. search needs)
     returns
     returns-2
     returns-3)

@@ -4,15 +4,6 @@ use borrow.Author.Needs.{needs}
 use Rattle.panel.proofs.white.divisor.Statement.{statement}
 use Rattle.panel.proofs.white.divisor.Tie as tie
 
-white-requires : tie.Need-white-requires
-white-requires c κs = search needs
-
-joined-requires : tie.Need-joined-requires
-joined-requires c κs = search needs
-
-short-times-plus-requires : tie.Need-short-times-plus-requires
-short-times-plus-requires c κs = search needs
-
 returns : tie.Need-returns
 returns c =
     let s = c .before .before .before in
@@ -21,4 +12,4 @@ returns c =
 
 pub divisor-spec : {M : Type 1} → statement M
 divisor-spec =
-    tie.close (tie.spec white-requires joined-requires short-times-plus-requires returns)
+    tie.close (tie.spec (λ c κs. search needs) (λ c κs. search needs) (λ c κs. search needs) returns)

@@ -7,18 +7,6 @@ use borrow.Author.Needs.{needs}
 use Rattle.panel.proofs.white.white.Statement.{statement}
 use Rattle.panel.proofs.white.white.Tie as tie
 
-joined-requires : tie.Need-joined-requires
-joined-requires c κs = search needs
-
-joined-requires-2 : tie.Need-joined-requires-2
-joined-requires-2 c κs = search needs
-
-joined-requires-3 : tie.Need-joined-requires-3
-joined-requires-3 c κs = search needs
-
-joined-requires-4 : tie.Need-joined-requires-4
-joined-requires-4 c κs = search needs
-
 returns : tie.Need-returns
 unfolding whiteSum
 returns c = c .joined .ensures ∙ rw (c .before .before .if1 .taken, c .before .if2 .taken) (sym d65-white-10)
@@ -43,10 +31,10 @@ pub white-spec : {M : Type 1} → statement M
 white-spec =
     tie.close
     (tie.spec
-    joined-requires
-    joined-requires-2
-    joined-requires-3
-    joined-requires-4
+    (λ c κs. search needs)
+    (λ c κs. search needs)
+    (λ c κs. search needs)
+    (λ c κs. search needs)
     returns
     returns-2
     returns-3

@@ -4,15 +4,6 @@ use borrow.Author.Needs.{needs}
 use Rattle.quailribbon.proofs.flatten.flat_on_chart.Statement.{statement}
 use Rattle.quailribbon.proofs.flatten.flat_on_chart.Tie as tie
 
-enum-known-place : tie.Need-enum-known-place
-enum-known-place c = search needs
-
-flat-point-requires : tie.Need-flat-point-requires
-flat-point-requires c κs = search needs
-
-enum-told : tie.Need-enum-told
-enum-told c = search needs
-
 returns : tie.Need-returns
 returns c = rw (c .before .before .place .given .1) (c .flat-point .ensures)
 
@@ -22,4 +13,4 @@ returns-2 c = rw (c .enum-told .given .1)
 
 pub flat-on-chart-spec : {M : Type 1} → statement M
 flat-on-chart-spec =
-    tie.close (tie.spec enum-known-place flat-point-requires enum-told returns returns-2)
+    tie.close (tie.spec (λ c. search needs) (λ c κs. search needs) (λ c. search needs) returns returns-2)

@@ -3,14 +3,8 @@ use borrow.Author.Needs.{needs}
 use Rattle.quailribbon.proofs.lights.qr_chart.Statement.{statement}
 use Rattle.quailribbon.proofs.lights.qr_chart.Tie as tie
 
-chart-requires : tie.Need-chart-requires
-chart-requires c κs = search needs
-
-flat-chart-requires : tie.Need-flat-chart-requires
-flat-chart-requires c κs = search needs
-
 returns : tie.Need-returns
 returns c = rw (c .flat-chart .ensures, c .before .chart .ensures)
 
 pub qr-chart-spec : {M : Type 1} → statement M
-qr-chart-spec = tie.close (tie.spec chart-requires flat-chart-requires returns)
+qr-chart-spec = tie.close (tie.spec (λ c κs. search needs) (λ c κs. search needs) returns)

@@ -3,14 +3,8 @@ use borrow.Author.Needs.{needs}
 use Rattle.quailribbon.proofs.lights.qr_figures.Statement.{statement}
 use Rattle.quailribbon.proofs.lights.qr_figures.Tie as tie
 
-figures-requires : tie.Need-figures-requires
-figures-requires c κs = search needs
-
-flat-figures-requires : tie.Need-flat-figures-requires
-flat-figures-requires c κs = search needs
-
 returns : tie.Need-returns
 returns c = rw (c .flat-figures .ensures, c .before .figures .ensures)
 
 pub qr-figures-spec : {M : Type 1} → statement M
-qr-figures-spec = tie.close (tie.spec figures-requires flat-figures-requires returns)
+qr-figures-spec = tie.close (tie.spec (λ c κs. search needs) (λ c κs. search needs) returns)

@@ -3,14 +3,8 @@ use borrow.Author.Needs.{needs}
 use Rattle.quailribbon.proofs.lights.qr_photopic.Statement.{statement}
 use Rattle.quailribbon.proofs.lights.qr_photopic.Tie as tie
 
-photopic-requires : tie.Need-photopic-requires
-photopic-requires c κs = search needs
-
-flat-reading-requires : tie.Need-flat-reading-requires
-flat-reading-requires c κs = search needs
-
 returns : tie.Need-returns
 returns c = rw (c .flat-reading .ensures, c .before .photopic .ensures)
 
 pub qr-photopic-spec : {M : Type 1} → statement M
-qr-photopic-spec = tie.close (tie.spec photopic-requires flat-reading-requires returns)
+qr-photopic-spec = tie.close (tie.spec (λ c κs. search needs) (λ c κs. search needs) returns)

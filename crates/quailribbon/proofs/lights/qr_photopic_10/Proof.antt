@@ -3,14 +3,8 @@ use borrow.Author.Needs.{needs}
 use Rattle.quailribbon.proofs.lights.qr_photopic_10.Statement.{statement}
 use Rattle.quailribbon.proofs.lights.qr_photopic_10.Tie as tie
 
-photopic-10-requires : tie.Need-photopic-10-requires
-photopic-10-requires c κs = search needs
-
-flat-reading-requires : tie.Need-flat-reading-requires
-flat-reading-requires c κs = search needs
-
 returns : tie.Need-returns
 returns c = rw (c .flat-reading .ensures, c .before .photopic-10 .ensures)
 
 pub qr-photopic-10-spec : {M : Type 1} → statement M
-qr-photopic-10-spec = tie.close (tie.spec photopic-10-requires flat-reading-requires returns)
+qr-photopic-10-spec = tie.close (tie.spec (λ c κs. search needs) (λ c κs. search needs) returns)

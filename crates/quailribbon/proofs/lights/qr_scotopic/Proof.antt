@@ -3,14 +3,8 @@ use borrow.Author.Needs.{needs}
 use Rattle.quailribbon.proofs.lights.qr_scotopic.Statement.{statement}
 use Rattle.quailribbon.proofs.lights.qr_scotopic.Tie as tie
 
-scotopic-requires : tie.Need-scotopic-requires
-scotopic-requires c κs = search needs
-
-flat-reading-requires : tie.Need-flat-reading-requires
-flat-reading-requires c κs = search needs
-
 returns : tie.Need-returns
 returns c = rw (c .flat-reading .ensures, c .before .scotopic .ensures)
 
 pub qr-scotopic-spec : {M : Type 1} → statement M
-qr-scotopic-spec = tie.close (tie.spec scotopic-requires flat-reading-requires returns)
+qr-scotopic-spec = tie.close (tie.spec (λ c κs. search needs) (λ c κs. search needs) returns)

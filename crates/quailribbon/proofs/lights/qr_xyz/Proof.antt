@@ -3,14 +3,8 @@ use borrow.Author.Needs.{needs}
 use Rattle.quailribbon.proofs.lights.qr_xyz.Statement.{statement}
 use Rattle.quailribbon.proofs.lights.qr_xyz.Tie as tie
 
-xyz-requires : tie.Need-xyz-requires
-xyz-requires c κs = search needs
-
-flat-xyz-requires : tie.Need-flat-xyz-requires
-flat-xyz-requires c κs = search needs
-
 returns : tie.Need-returns
 returns c = rw (c .flat-xyz .ensures, c .before .xyz .ensures)
 
 pub qr-xyz-spec : {M : Type 1} → statement M
-qr-xyz-spec = tie.close (tie.spec xyz-requires flat-xyz-requires returns)
+qr-xyz-spec = tie.close (tie.spec (λ c κs. search needs) (λ c κs. search needs) returns)

@@ -3,14 +3,8 @@ use borrow.Author.Needs.{needs}
 use Rattle.quailribbon.proofs.panels.qr_panel_xy.Statement.{statement}
 use Rattle.quailribbon.proofs.panels.qr_panel_xy.Tie as tie
 
-panel-xy-requires : tie.Need-panel-xy-requires
-panel-xy-requires c κs = search needs
-
-flat-xy-requires : tie.Need-flat-xy-requires
-flat-xy-requires c κs = search needs
-
 returns : tie.Need-returns
 returns c = rw (c .flat-xy .ensures, c .before .panel-xy .ensures)
 
 pub qr-panel-xy-spec : {M : Type 1} → statement M
-qr-panel-xy-spec = tie.close (tie.spec panel-xy-requires flat-xy-requires returns)
+qr-panel-xy-spec = tie.close (tie.spec (λ c κs. search needs) (λ c κs. search needs) returns)

@@ -13,23 +13,11 @@ colour :
     (c : tie.After-enum-told) → let t = begin c .args in AcceptedColour (t .observer) (t .start) (t .step) (t .samples .now)
 colour c = record { fine = sym (c .before .before .check-colour .ensures) ∙ c .enum-told .given .1 }
 
-check-colour-requires : tie.Need-check-colour-requires
-check-colour-requires c κs = search needs
-
-enum-told : tie.Need-enum-told
-enum-told c = search needs
-
 light-sums-requires : tie.Need-light-sums-requires
 light-sums-requires c κs = light-of (colour c) .fine
 
 xy-from-requires : tie.Need-xy-from-requires
 xy-from-requires c κs = total-small (light-of (colour (c .before))) (c .light-sums .ensures)
-
-on-chart-requires : tie.Need-on-chart-requires
-on-chart-requires c κs = search needs
-
-enum-known-check : tie.Need-enum-known-check
-enum-known-check c = search needs
 
 returns : tie.Need-returns
 unfolding chartOf
@@ -46,11 +34,11 @@ pub chart-spec : {M : Type 1} → statement M
 chart-spec =
     tie.close
     (tie.spec
-    check-colour-requires
-    enum-told
+    (λ c κs. search needs)
+    (λ c. search needs)
     light-sums-requires
     xy-from-requires
-    on-chart-requires
-    enum-known-check
+    (λ c κs. search needs)
+    (λ c. search needs)
     returns
     returns-2)

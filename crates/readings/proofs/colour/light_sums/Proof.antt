@@ -23,9 +23,6 @@ sub-colour-sums c = in-row (part c)
 part-colour-sums-start : tie.Need-part-colour-sums-start
 part-colour-sums-start c = in-row (part c)
 
-part-colour-sums-end : tie.Need-part-colour-sums-end
-part-colour-sums-end c = search needs
-
 colour-sums-requires : tie.Need-colour-sums-requires
 colour-sums-requires c κs = part-begun (part (c .before))
 
@@ -40,6 +37,6 @@ light-sums-spec =
     mul-colour-sums
     sub-colour-sums
     part-colour-sums-start
-    part-colour-sums-end
+    (λ c. search needs)
     colour-sums-requires
     returns)

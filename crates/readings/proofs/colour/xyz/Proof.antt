@@ -14,26 +14,11 @@ colour :
     (c : tie.After-enum-told) → let t = begin c .args in AcceptedColour (t .observer) (t .start) (t .step) (t .samples .now)
 colour c = record { fine = sym (c .before .before .check-colour .ensures) ∙ c .enum-told .given .1 }
 
-check-colour-requires : tie.Need-check-colour-requires
-check-colour-requires c κs = search needs
-
-enum-told : tie.Need-enum-told
-enum-told c = search needs
-
 light-sums-requires : tie.Need-light-sums-requires
 light-sums-requires c κs = light-of (colour c) .fine
 
-efficacy-requires : tie.Need-efficacy-requires
-efficacy-requires c κs = search needs
-
 scale-requires : tie.Need-scale-requires
 scale-requires c κs = step-small (light-of (colour (c .before .before)))
-
-xyz-from-requires : tie.Need-xyz-from-requires
-xyz-from-requires c κs = search needs
-
-enum-known-check : tie.Need-enum-known-check
-enum-known-check c = search needs
 
 returns : tie.Need-returns
 unfolding xyzOf
@@ -60,12 +45,12 @@ pub xyz-spec : {M : Type 1} → statement M
 xyz-spec =
     tie.close
     (tie.spec
-    check-colour-requires
-    enum-told
+    (λ c κs. search needs)
+    (λ c. search needs)
     light-sums-requires
-    efficacy-requires
+    (λ c κs. search needs)
     scale-requires
-    xyz-from-requires
-    enum-known-check
+    (λ c κs. search needs)
+    (λ c. search needs)
     returns
     returns-2)

@@ -18,12 +18,6 @@ part :
     (c : tie.After-begin-at-360) → let t = begin (c .before) .args in BegunLight (t .start) (t .step) (t .samples .now) (c .begin-at-360 .result)
 part c = record { light = light (c .before); begins = c .begin-at-360 .ensures }
 
-check-light-requires : tie.Need-check-light-requires
-check-light-requires c κs = search needs
-
-enum-told : tie.Need-enum-told
-enum-told c = search needs
-
 begin-at-360-requires : tie.Need-begin-at-360-requires
 begin-at-360-requires c κs = sought (light c)
 
@@ -36,9 +30,6 @@ sub-figure-sums c = in-row (part c)
 part-figure-sums-start : tie.Need-part-figure-sums-start
 part-figure-sums-start c = in-row (part c)
 
-part-figure-sums-end : tie.Need-part-figure-sums-end
-part-figure-sums-end c = search needs
-
 figure-sums-requires : tie.Need-figure-sums-requires
 figure-sums-requires c κs = part-begun (part (c .before))
 
@@ -50,9 +41,6 @@ figures-from-requires c κs =
     let sums = c .before in
     let is = part (sums .before .before) in
     total-small (is .light) (colour-begun is (sums .figure-sums .ensures .colour))
-
-enum-known-check : tie.Need-enum-known-check
-enum-known-check c = search needs
 
 returns : tie.Need-returns
 unfolding illuminanceOf xyzOf xyOf
@@ -71,16 +59,16 @@ pub figures-spec : {M : Type 1} → statement M
 figures-spec =
     tie.close
     (tie.spec
-    check-light-requires
-    enum-told
+    (λ c κs. search needs)
+    (λ c. search needs)
     begin-at-360-requires
     mul-figure-sums
     sub-figure-sums
     part-figure-sums-start
-    part-figure-sums-end
+    (λ c. search needs)
     figure-sums-requires
     scale-requires
     figures-from-requires
-    enum-known-check
+    (λ c. search needs)
     returns
     returns-2)

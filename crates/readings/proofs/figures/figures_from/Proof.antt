@@ -24,27 +24,6 @@ scotopic-worked :
     let t = begin c .args in readingFrom (1700 * short (t .sums .night)) (short (t .divisor)) ≡ c .reading-from .result
 scotopic-worked c = sym (c .reading-from .ensures ∙ reading-factor _ _ _)
 
-xyz-from-requires : tie.Need-xyz-from-requires
-xyz-from-requires c κs = search needs
-
-reading-from-requires : tie.Need-reading-from-requires
-reading-from-requires c κs = search needs
-
-enum-known-xyz : tie.Need-enum-known-xyz
-enum-known-xyz c = search needs
-
-enum-known-scotopic : tie.Need-enum-known-scotopic
-enum-known-scotopic c = search needs
-
-xy-from-requires : tie.Need-xy-from-requires
-xy-from-requires c κs = search needs
-
-enum-known-scotopic-2 : tie.Need-enum-known-scotopic-2
-enum-known-scotopic-2 c = search needs
-
-enum-known-xyz-2 : tie.Need-enum-known-xyz-2
-enum-known-xyz-2 c = search needs
-
 returns : tie.Need-returns
 returns c =
     let scotopic = c .before .before in
@@ -67,13 +46,13 @@ pub figures-from-spec : {M : Type 1} → statement M
 figures-from-spec =
     tie.close
     (tie.spec
-    xyz-from-requires
-    reading-from-requires
-    enum-known-xyz
-    enum-known-scotopic
-    xy-from-requires
-    enum-known-scotopic-2
-    enum-known-xyz-2
+    (λ c κs. search needs)
+    (λ c κs. search needs)
+    (λ c. search needs)
+    (λ c. search needs)
+    (λ c κs. search needs)
+    (λ c. search needs)
+    (λ c. search needs)
     returns
     returns-2
     returns-3)

@@ -9,12 +9,6 @@ use Rattle.readings.proofs.sums.figure_sums.Tie as tie
 abbrev begin : tie.After-lay → tie.Start
 begin c = c .before .before .before .before
 
-unmeasured-requires : tie.Need-unmeasured-requires
-unmeasured-requires c κs = search needs
-
-lay-requires : tie.Need-lay-requires
-lay-requires c κs = search needs
-
 row-sums-requires : tie.Need-row-sums-requires
 row-sums-requires c κs =
     let row = c .before in
@@ -38,4 +32,4 @@ returns c =
     }
 
 pub figure-sums-spec : {M : Type 1} → statement M
-figure-sums-spec = tie.close (tie.spec unmeasured-requires lay-requires row-sums-requires weigh-requires returns)
+figure-sums-spec = tie.close (tie.spec (λ c κs. search needs) (λ c κs. search needs) row-sums-requires weigh-requires returns)

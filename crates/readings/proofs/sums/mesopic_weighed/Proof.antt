@@ -13,12 +13,6 @@ use Rattle.readings.proofs.sums.mesopic_weighed.Tie as tie
 abbrev begin : tie.After-lay → tie.Start
 begin c = c .before .before .before .before
 
-unmeasured-requires : tie.Need-unmeasured-requires
-unmeasured-requires c κs = search needs
-
-lay-requires : tie.Need-lay-requires
-lay-requires c κs = search needs
-
 abbrev laid : tie.After-short-times-plus → tie.After-lay
 laid c = c .before .before .before .before
 
@@ -28,23 +22,11 @@ weigh-requires c κs =
     let s = begin row in
     rw (row .lay .ensures) (begun-small 1000000 (s .args .first) (s .args .step) (s .args .part .now) (s .pre .1))
 
-sub-short-times-plus : tie.Need-sub-short-times-plus
-sub-short-times-plus c = search needs
-
-joined-requires : tie.Need-joined-requires
-joined-requires c κs = search needs
-
-short-times-plus-requires : tie.Need-short-times-plus-requires
-short-times-plus-requires c κs = search needs
-
 weigh-requires-2 : tie.Need-weigh-requires-2
 weigh-requires-2 c κs =
     let row = laid (c .before) in
     let s = begin row in
     rw (row .lay .ensures) (begun-small 1000000 (s .args .first) (s .args .step) (s .args .part .now) (s .pre .1))
-
-short-times-plus-requires-2 : tie.Need-short-times-plus-requires-2
-short-times-plus-requires-2 c κs = search needs
 
 returns : tie.Need-returns
 returns c =
@@ -70,12 +52,12 @@ pub mesopic-weighed-spec : {M : Type 1} → statement M
 mesopic-weighed-spec =
     tie.close
     (tie.spec
-    unmeasured-requires
-    lay-requires
+    (λ c κs. search needs)
+    (λ c κs. search needs)
     weigh-requires
-    sub-short-times-plus
-    joined-requires
-    short-times-plus-requires
+    (λ c. search needs)
+    (λ c κs. search needs)
+    (λ c κs. search needs)
     weigh-requires-2
-    short-times-plus-requires-2
+    (λ c κs. search needs)
     returns)

@@ -8,12 +8,6 @@ use Rattle.readings.proofs.sums.weighed.Tie as tie
 abbrev begin : tie.After-lay → tie.Start
 begin c = c .before .before .before .before
 
-unmeasured-requires : tie.Need-unmeasured-requires
-unmeasured-requires c κs = search needs
-
-lay-requires : tie.Need-lay-requires
-lay-requires c κs = search needs
-
 weigh-requires : tie.Need-weigh-requires
 weigh-requires c κs =
     let row = c .before in
@@ -24,4 +18,4 @@ returns : tie.Need-returns
 returns c = c .weigh .ensures ∙ rw (c .before .before .lay .ensures, row-weighed)
 
 pub weighed-spec : {M : Type 1} → statement M
-weighed-spec = tie.close (tie.spec unmeasured-requires lay-requires weigh-requires returns)
+weighed-spec = tie.close (tie.spec (λ c κs. search needs) (λ c κs. search needs) weigh-requires returns)

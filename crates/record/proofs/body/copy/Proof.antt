@@ -19,14 +19,8 @@ abbrev μ-loop : tie.MeasureT-loop
 loop-holds : tie.Need-loop-holds Inv-loop μ-loop
 loop-holds c = (omega arith, refl, refl)
 
-mul-samples : tie.Need-mul-samples Inv-loop μ-loop
-mul-samples c = search needs
-
 shared-slice-read-samples : tie.Need-shared-slice-read-samples Inv-loop μ-loop
 shared-slice-read-samples c = omega arith
-
-mul-samples-2 : tie.Need-mul-samples-2 Inv-loop μ-loop
-mul-samples-2 c = search needs
 
 slice-write-samples : tie.Need-slice-write-samples Inv-loop μ-loop
 slice-write-samples c = omega arith
@@ -63,9 +57,9 @@ copy-spec =
     Inv-loop
     μ-loop
     loop-holds
-    mul-samples
+    (λ c. search needs)
     shared-slice-read-samples
-    mul-samples-2
+    (λ c. search needs)
     slice-write-samples
     add-k
     loop-less

@@ -13,12 +13,6 @@ use Rattle.record.proofs.body.padding_is_clear.Tie as tie
 returns : tie.Need-returns
 returns c = sym (eq-eqb _ 0 (padding-even (c .before .args .count) (c .before .args .bytes .now) (c .if1 .taken)))
 
-sub-result : tie.Need-sub-result
-sub-result c = search needs
-
-shared-slice-read-result : tie.Need-shared-slice-read-result
-shared-slice-read-result c = search needs
-
 returns-2 : tie.Need-returns-2
 returns-2 c =
     let n = c .before .before .args .count in
@@ -27,4 +21,4 @@ returns-2 c =
     ap (λ (x : ℕ). eqb x 0) (sym (padding-odd n bytes known (c .before .before .pre .0) (c .before .before .pre .1) (omega arith)))
 
 pub padding-is-clear-spec : {M : Type 1} → statement M
-padding-is-clear-spec = tie.close (tie.spec returns sub-result shared-slice-read-result returns-2)
+padding-is-clear-spec = tie.close (tie.spec returns (λ c. search needs) (λ c. search needs) returns-2)

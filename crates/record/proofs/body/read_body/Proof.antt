@@ -53,23 +53,11 @@ checked c =
     ∙ ap samplesCheck (sym (unpacked (row c)))
     ∙ sym (c .check-samples .ensures)
 
-length-of-requires : tie.Need-length-of-requires
-length-of-requires c κs = search needs
-
-refused-requires : tie.Need-refused-requires
-refused-requires c κs = search needs
-
 returns : tie.Need-returns
 returns c =
     let start = begin (c .before .before) in
     let e = length-refused (start .args .count) (start .args .bytes .now) (λ p. c .before .if1 .taken (p ∙ sym (c .before .before .length-of .ensures))) in
     (rw e (c .refused .ensures), rw e)
-
-padding-is-clear-requires : tie.Need-padding-is-clear-requires
-padding-is-clear-requires c κs = search needs
-
-refused-requires-2 : tie.Need-refused-requires-2
-refused-requires-2 c κs = search needs
 
 returns-2 : tie.Need-returns-2
 returns-2 c =
@@ -79,34 +67,16 @@ returns-2 c =
     let e = padding-refused (start .args .count) (start .args .bytes .now) (whole (clear .before)) set in
     (rw e (c .refused2 .ensures), rw e)
 
-slice-aggregate-unpack : tie.Need-slice-aggregate-unpack
-slice-aggregate-unpack c = search needs
-
-unpack-requires : tie.Need-unpack-requires
-unpack-requires c κs = search needs
-
-array-share-prefix-row : tie.Need-array-share-prefix-row
-array-share-prefix-row c = search needs
-
 slice-aggregate-check-samples : tie.Need-slice-aggregate-check-samples
 slice-aggregate-check-samples c = sym (unpacked-length (c .before .before))
 
 check-samples-requires : tie.Need-check-samples-requires
 check-samples-requires c κs = omega (arith, unpacked-length (c .before .before))
 
-enum-known-refusal : tie.Need-enum-known-refusal
-enum-known-refusal c = search needs
-
 returns-3 : tie.Need-returns-3
 returns-3 c =
     let e = checked (c .before .before .before) ∙ c .before .refusal .given .1 in
     (rw e, rw e)
-
-enum-told : tie.Need-enum-told
-enum-told c = search needs
-
-refused-requires-3 : tie.Need-refused-requires-3
-refused-requires-3 c κs = search needs
 
 returns-4 : tie.Need-returns-4
 returns-4 c =
@@ -117,17 +87,11 @@ returns-4 c =
     let short = lt-leb (count (row samples)) (length room) (c .before .if3 .taken) in
     (rw (e, short) (c .refused3 .ensures), rw (e, short))
 
-array-share-prefix-row-2 : tie.Need-array-share-prefix-row-2
-array-share-prefix-row-2 c = search needs
-
 slice-aggregate-copy : tie.Need-slice-aggregate-copy
 slice-aggregate-copy c = let fine = c .before .before in sym (unpacked-length (row (fine .before .before)))
 
 copy-requires : tie.Need-copy-requires
 copy-requires c κs = let fine = c .before .before .before in rw (unpacked-length (row (fine .before .before))) (c .before .before .if3 .left)
-
-same-length : tie.Need-same-length
-same-length c = search needs
 
 returns-5 : tie.Need-returns-5
 returns-5 c =
@@ -145,24 +109,24 @@ pub read-body-spec : {M : Type 1} → statement M
 read-body-spec =
     tie.close
     (tie.spec
-    length-of-requires
-    refused-requires
+    (λ c κs. search needs)
+    (λ c κs. search needs)
     returns
-    padding-is-clear-requires
-    refused-requires-2
+    (λ c κs. search needs)
+    (λ c κs. search needs)
     returns-2
-    slice-aggregate-unpack
-    unpack-requires
-    array-share-prefix-row
+    (λ c. search needs)
+    (λ c κs. search needs)
+    (λ c. search needs)
     slice-aggregate-check-samples
     check-samples-requires
-    enum-known-refusal
+    (λ c. search needs)
     returns-3
-    enum-told
-    refused-requires-3
+    (λ c. search needs)
+    (λ c κs. search needs)
     returns-4
-    array-share-prefix-row-2
+    (λ c. search needs)
     slice-aggregate-copy
     copy-requires
-    same-length
+    (λ c. search needs)
     returns-5)

@@ -8,33 +8,6 @@ use borrow.Author.Needs.{needs}
 use Rattle.record.proofs.head.header_number.Statement.{statement}
 use Rattle.record.proofs.head.header_number.Tie as tie
 
-code-of-requires : tie.Need-code-of-requires
-code-of-requires c κs = search needs
-
-mul-result : tie.Need-mul-result
-mul-result c = search needs
-
-add-result : tie.Need-add-result
-add-result c = search needs
-
-sub-result : tie.Need-sub-result
-sub-result c = search needs
-
-mul-result-2 : tie.Need-mul-result-2
-mul-result-2 c = search needs
-
-add-result-2 : tie.Need-add-result-2
-add-result-2 c = search needs
-
-cast-result : tie.Need-cast-result
-cast-result c = search needs
-
-mul-result-3 : tie.Need-mul-result-3
-mul-result-3 c = search needs
-
-add-result-3 : tie.Need-add-result-3
-add-result-3 c = search needs
-
 returns : tie.Need-returns
 returns c =
     let a = c .before .args .start in
@@ -47,13 +20,13 @@ pub header-number-spec : {M : Type 1} → statement M
 header-number-spec =
     tie.close
     (tie.spec
-    code-of-requires
-    mul-result
-    add-result
-    sub-result
-    mul-result-2
-    add-result-2
-    cast-result
-    mul-result-3
-    add-result-3
+    (λ c κs. search needs)
+    (λ c. search needs)
+    (λ c. search needs)
+    (λ c. search needs)
+    (λ c. search needs)
+    (λ c. search needs)
+    (λ c. search needs)
+    (λ c. search needs)
+    (λ c. search needs)
     returns)

@@ -35,17 +35,8 @@ passed c =
     header-passed (bytes three) (number three) (three .before .if1 .left) (fields three) (three .three .ensures .1) (c .before .before .if2 .left) (c .before .if3 .left)
     ∙ ap (λ (s : ℕ). gridCheck (300 + number three / 2048 % 128) s (number three / 2 % 1024)) (sym (c .step-of .ensures))
 
-refused-requires : tie.Need-refused-requires
-refused-requires c κs = search needs
-
 returns : tie.Need-returns
 returns c = rw (short-refused (c .before .before .before .args .bytes .now) (c .before .if1 .taken)) (c .refused .ensures)
-
-three-requires : tie.Need-three-requires
-three-requires c κs = search needs
-
-refused-requires-2 : tie.Need-refused-requires-2
-refused-requires-2 c κs = search needs
 
 returns-2 : tie.Need-returns-2
 returns-2 c =
@@ -53,32 +44,11 @@ returns-2 c =
     let refuse = edition-refused (bytes three) (number three) (three .before .if1 .left) (fields three) (three .three .ensures .1) in
     rw (refuse (c .before .if2 .taken)) (c .refused2 .ensures)
 
-refused-requires-3 : tie.Need-refused-requires-3
-refused-requires-3 c κs = search needs
-
 returns-3 : tie.Need-returns-3
 returns-3 c =
     let three = c .before .before .before in
     let refuse = reserved-refused (bytes three) (number three) (three .before .if1 .left) (fields three) (three .three .ensures .1) in
     rw (refuse (c .before .before .if2 .left) (c .before .if3 .taken)) (c .refused3 .ensures)
-
-add-start : tie.Need-add-start
-add-start c = search needs
-
-step-of-requires : tie.Need-step-of-requires
-step-of-requires c κs = search needs
-
-cast-check-grid : tie.Need-cast-check-grid
-cast-check-grid c = search needs
-
-check-grid-requires : tie.Need-check-grid-requires
-check-grid-requires c κs = search needs
-
-enum-told : tie.Need-enum-told
-enum-told c = search needs
-
-enum-known-refusal : tie.Need-enum-known-refusal
-enum-known-refusal c = search needs
 
 returns-4 : tie.Need-returns-4
 returns-4 c =
@@ -95,18 +65,18 @@ pub read-header-spec : {M : Type 1} → statement M
 read-header-spec =
     tie.close
     (tie.spec
-    refused-requires
+    (λ c κs. search needs)
     returns
-    three-requires
-    refused-requires-2
+    (λ c κs. search needs)
+    (λ c κs. search needs)
     returns-2
-    refused-requires-3
+    (λ c κs. search needs)
     returns-3
-    add-start
-    step-of-requires
-    cast-check-grid
-    check-grid-requires
-    enum-told
-    enum-known-refusal
+    (λ c. search needs)
+    (λ c κs. search needs)
+    (λ c. search needs)
+    (λ c κs. search needs)
+    (λ c. search needs)
+    (λ c. search needs)
     returns-4
     returns-5)

@@ -22,15 +22,6 @@ found c r t p q =
     sample-window (start .args .count) (start .args .k) r t (start .args .bytes .now) known (start .pre .0) (start .pre .2) p q
     ∙ ap (λ (v : ℕ). v / 2 ^ t % 2 ^ 20) (sym (c .three .ensures .0))
 
-mul-three : tie.Need-mul-three
-mul-three c = search needs
-
-add-three : tie.Need-add-three
-add-three c = search needs
-
-three-requires : tie.Need-three-requires
-three-requires c κs = search needs
-
 returns : tie.Need-returns
 returns c = omega (arith, found (c .before) 0 4 (omega arith) refl)
 
@@ -38,4 +29,4 @@ returns-2 : tie.Need-returns-2
 returns-2 c = omega (arith, found (c .before) 4 0 (omega arith) refl)
 
 pub sample-spec : {M : Type 1} → statement M
-sample-spec = tie.close (tie.spec mul-three add-three three-requires returns returns-2)
+sample-spec = tie.close (tie.spec (λ c. search needs) (λ c. search needs) (λ c κs. search needs) returns returns-2)

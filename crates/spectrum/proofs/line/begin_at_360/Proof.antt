@@ -13,12 +13,6 @@ product c =
     let up = 360 - c .before .args .start in
     rw (c .steps-to-360 .ensures) (let h : up / s * s ≤ up = div-mul-le-self up s in omega arith)
 
-steps-to-360-requires : tie.Need-steps-to-360-requires
-steps-to-360-requires c κs = search needs
-
-cast-t4 : tie.Need-cast-t4
-cast-t4 c = search needs
-
 mul-t5 : tie.Need-mul-t5
 mul-t5 c = let h = product c in omega arith
 
@@ -33,4 +27,4 @@ returns c =
     }
 
 pub begin-at-360-spec : {M : Type 1} → statement M
-begin-at-360-spec = tie.close (tie.spec steps-to-360-requires cast-t4 mul-t5 add-t6 returns)
+begin-at-360-spec = tie.close (tie.spec (λ c κs. search needs) (λ c. search needs) mul-t5 add-t6 returns)

@@ -7,16 +7,10 @@ use borrow.Author.Needs.{needs}
 use Rattle.spectrum.proofs.line.steps_to_360.Statement.{statement}
 use Rattle.spectrum.proofs.line.steps_to_360.Tie as tie
 
-div-result : tie.Need-div-result
-div-result c = search needs
-
 returns : tie.Need-returns
 returns c =
     let z : 360 - c .before .args .start ≡ 0 = omega arith in
     rw (z, zero-div)
 
-returns-2 : tie.Need-returns-2
-returns-2 c = search needs
-
 pub steps-to-360-spec : {M : Type 1} → statement M
-steps-to-360-spec = tie.close (tie.spec div-result returns returns-2)
+steps-to-360-spec = tie.close (tie.spec (λ c. search needs) returns (λ c. search needs))

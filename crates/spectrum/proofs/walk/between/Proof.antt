@@ -14,12 +14,6 @@ small c =
     let y : c .args .next ≤ 2 ^ 32 = omega arith in
     (mul-le-mul a x, mul-le-mul b y)
 
-sub-result : tie.Need-sub-result
-sub-result c = search needs
-
-cast-result : tie.Need-cast-result
-cast-result c = search needs
-
 mul-result : tie.Need-mul-result
 mul-result c = let h = small c in omega arith
 
@@ -29,9 +23,6 @@ mul-result-2 c = let h = small c in omega arith
 add-result : tie.Need-add-result
 add-result c = let h = small c in omega arith
 
-returns : tie.Need-returns
-returns c = search needs
-
 pub between-spec : {M : Type 1} → statement M
 between-spec =
-    tie.close (tie.spec sub-result cast-result mul-result mul-result-2 add-result returns)
+    tie.close (tie.spec (λ c. search needs) (λ c. search needs) mul-result mul-result-2 add-result (λ c. search needs))

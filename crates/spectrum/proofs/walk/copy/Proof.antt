@@ -30,9 +30,6 @@ loop-holds c =
       rw (add-zero, c .place-of .ensures) (lay-none (s .args .first) 1 (s .args .part .now) (s .args .row .now) (s .pre .0 .start-high) (s .pre .1)),
     )
 
-mul-wide : tie.Need-mul-wide Inv-loop μ-loop
-mul-wide c = search needs
-
 shared-slice-read-wide : tie.Need-shared-slice-read-wide Inv-loop μ-loop
 shared-slice-read-wide c = omega arith
 
@@ -82,7 +79,7 @@ copy-spec =
     μ-loop
     place-of-requires
     loop-holds
-    mul-wide
+    (λ c. search needs)
     shared-slice-read-wide
     wide-requires
     add-row
