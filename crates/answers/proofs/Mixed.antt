@@ -12,6 +12,7 @@ use Rattle.mixing.proofs.Mixture.{linear-plus, linear-times}
 use Rattle.mixing.proofs.Illuminance.{illuminance}
 use Rattle.mixing.proofs.Coordinate.{between}
 use Rattle.answers.specs.Worked.{readingFrom, xyzFrom, xyFrom}
+use Rattle.grid.specs.Refusals.{DARK}
 use Rattle.grid.specs.Said.{Said, value}
 use Rattle.answers.specs.Said.{saidReading, saidXyz, saidXy}
 use Rattle.answers.proofs.Values.{reading-values, xyz-values, xy-lit, xy-dark, xy-given}
@@ -113,7 +114,7 @@ module _
         go a b (suc (suc i)) = record { low = omega arith; high = omega arith }
 
     -- a dark part adds nothing to any sum
-    pub xy-one-dark : xy xs .number ≡ 9 → (xy (mix xs ys) ≡ xy ys) × (xy (mix ys xs) ≡ xy ys)
+    pub xy-one-dark : xy xs .number ≡ DARK → (xy (mix xs ys) ≡ xy ys) × (xy (mix ys xs) ≡ xy ys)
     xy-one-dark e =
         let z = xy-dark (F xs) (G xs) (H xs) e in
         let none : (F xs ≡ 0) × (G xs ≡ 0) × (H xs ≡ 0) = omega arith in (

@@ -7,6 +7,7 @@ use native.Mathlib.Nat.{mul-comm}
 use native.Mathlib.Omega.{arith}
 use borrow.Author.Tests.{eqb-true, eqb-false, ne-eqb, le-leb}
 use lib.Dec.{eqb}
+use Rattle.grid.specs.Refusals.{DARK}
 use Rattle.mixing.specs.Nearest.{nearest}
 use Rattle.answers.specs.declared.XyzAnswer.{XyzAnswer}
 use Rattle.answers.specs.declared.XyAnswer.{XyAnswer}
@@ -52,7 +53,7 @@ module _ (x y z : ℕ) where
       omega arith
 
   -- and dark ones have none
-  pub xy-dark : saidXy (xyFrom x y z) .number ≡ 9 → x + y + z ≡ 0
+  pub xy-dark : saidXy (xyFrom x y z) .number ≡ DARK → x + y + z ≡ 0
   unfolding xyFrom
   xy-dark e = eqb-true (x + y + z) 0 (not-eq-not {a = eqb (x + y + z) 0} {b = true} .0 (λ p. let h = rw p at e in omega arith))
 

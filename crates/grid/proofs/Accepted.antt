@@ -7,6 +7,7 @@ use native.Mathlib.Nat.{mul-le-mul-right}
 use native.Mathlib.Omega.{arith}
 use borrow.Author.Tests.{leb-true, ltb-true, eqb-true}
 use lib.Dec.{leb, ltb, eqb}
+use Rattle.grid.specs.Refusals.{STEP, START, COUNT}
 use Rattle.grid.specs.Check.{gridCheck, isStep, isStart, isCount, lastOf, require, refusal}
 use Rattle.grid.specs.declared.Check.the-variants.{Fine}
 use Rattle.grid.proofs.Limit.{passed}
@@ -53,9 +54,9 @@ start-range a e = let h = both (leb 300 a) (leb a 380) e in (leb-true 300 a (h .
 pub accepted : (a s n : ℕ) → gridCheck a s n ≡ Fine → OnGrid a s n
 unfolding gridCheck
 accepted a s n e =
-    let step = passed (isStep s) (require (isStart a) 2 (require (isCount a s n) 3 Fine)) (refusal 1 0) e in
-    let start = passed (isStart a) (require (isCount a s n) 3 Fine) (refusal 2 0) (step .1) in
-    let count = passed (isCount a s n) Fine (refusal 3 0) (start .1) in
+    let step = passed (isStep s) (require (isStart a) START (require (isCount a s n) COUNT Fine)) (refusal STEP 0) e in
+    let start = passed (isStart a) (require (isCount a s n) COUNT Fine) (refusal START 0) (step .1) in
+    let count = passed (isCount a s n) Fine (refusal COUNT 0) (start .1) in
     let range = step-range s (step .0) in
     let from = start-range a (start .0) in
     let ends = both (ltb 0 n && leb 780 (lastOf a s n)) (leb (lastOf a s n) 830) (count .0) in

@@ -4,14 +4,15 @@ use mathlib.Core.List.{List}
 use Prim.Native.Nat.{ℕ}
 use native.Mathlib.Omega.{arith}
 use lib.ListN.{length}
+use Rattle.grid.specs.Refusals.{SAMPLE}
 use Rattle.grid.specs.declared.Check.{Check}
 use Rattle.grid.specs.declared.Check.the-variants.{Fine, Refused}
-use Rattle.grid.specs.Check.{gridCheck, samplesCheck, lightCheck, unless, Within}
+use Rattle.grid.specs.Check.{gridCheck, samplesCheck, lightCheck, thenCheck, Within}
 use Rattle.grid.proofs.Limit.{fine-within}
 use Rattle.grid.proofs.Accepted.{OnGrid, accepted}
 
 -- where a check is followed by another and all is fine, both are
-pub both-fine : (c d : Check) → unless c Refused d ≡ Fine → (c ≡ Fine) × (d ≡ Fine)
+pub both-fine : (c d : Check) → thenCheck c d ≡ Fine → (c ≡ Fine) × (d ≡ Fine)
 both-fine Fine d e = (refl, e)
 both-fine (Refused r) d e = absurd (let z : _≡_ {A = ℕ} 0 1 = cc in omega arith)
 
@@ -25,7 +26,7 @@ module _ (a s : ℕ) (xs : List ℕ) (fine : lightCheck a s xs ≡ Fine) where
   samples-fine = both-fine (gridCheck a s (length xs)) (samplesCheck xs) fine .1
 
   pub within : Within 1000000 xs
-  within = fine-within 4 1000000 0 xs samples-fine
+  within = fine-within SAMPLE 1000000 0 xs samples-fine
 
   pub on-grid : OnGrid a s (length xs)
   on-grid = accepted a s (length xs) grid-fine

@@ -21,6 +21,10 @@ abbrev pub unless : {A : Type 0} → Check → (Refusal → A) → A → A
 unless Fine refused answer = answer
 unless (Refused r) refused answer = refused r
 
+-- one check, and where it is fine the next
+abbrev pub thenCheck : Check → Check → Check
+thenCheck check next = unless check Refused next
+
 -- s is 1, 2, 5 or 10
 abbrev pub isStep : ℕ → Bool
 isStep s = eqb s 1 || eqb s 2 || eqb s 5 || eqb s 10
@@ -60,7 +64,7 @@ samplesCheck xs = limitCheck SAMPLE 1000000 0 xs
 
 -- the checks of a light: STEP, START, COUNT, then SAMPLE
 unfoldable pub lightCheck : ℕ → ℕ → List ℕ → Check
-lightCheck a s xs = unless (gridCheck a s (length xs)) Refused (samplesCheck xs)
+lightCheck a s xs = thenCheck (gridCheck a s (length xs)) (samplesCheck xs)
 
 -- REFLECTANCE: a reflectance above 10,000
 abbrev pub reflectancesCheck : List ℕ → Check

@@ -6,6 +6,7 @@ use Prim.Native.Nat.{ℕ, zero, suc, _+_, _*_, _-_, _/_, _%_, _≤_, zero-le}
 use native.Mathlib.Nat.{mul-zero, add-zero}
 use borrow.Author.Tests.{le-leb}
 use lib.ListN.{getD, replicate, length, length-replicate}
+use Rattle.grid.specs.Refusals.{DARK}
 use Rattle.grid.specs.declared.Check.the-variants.{Fine}
 use Rattle.grid.specs.Check.{refusal, isObserver, gridCheck, samplesCheck, lightCheck}
 use Rattle.grid.proofs.Limit.{within-fine}
@@ -70,7 +71,7 @@ module _ (a s : ℕ) (xs : List ℕ) (fine : lightCheck a s xs ≡ Fine) where
     unfolding xyzOf xyzFrom
     no-xyz = rw (e, fine, no-sums .0, no-sums .1, no-sums .2, mul-zero (ofObserver o 683 684), nearest-none)
 
-    pub no-xy : xyOf o a s xs ≡ XyAnswer.Refused (refusal 9 0)
+    pub no-xy : xyOf o a s xs ≡ XyAnswer.Refused (refusal DARK 0)
     unfolding xyOf xyFrom
     no-xy = rw (e, fine, no-sums .0, no-sums .1, no-sums .2)
 
@@ -83,6 +84,6 @@ module _ (a s : ℕ) (xs : List ℕ) (fine : lightCheck a s xs ≡ Fine) where
       Colourless 2 a s xs → Unlit VPrime a s xs →
       figuresOf a s xs
       ≡ FiguresAnswer.Value
-      (record { photopic = 0; scotopic = 0; xyz = record { x = 0; y = 0; z = 0 }; xy = XyAnswer.Refused (refusal 9 0) })
+      (record { photopic = 0; scotopic = 0; xyz = record { x = 0; y = 0; z = 0 }; xy = XyAnswer.Refused (refusal DARK 0) })
   no-figures unlit night =
       rw (no-illuminance YBar 683 (unlit .1), no-illuminance VPrime 1700 night, no-xyz 2 refl unlit, no-xy 2 refl unlit)

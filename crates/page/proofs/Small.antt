@@ -7,6 +7,7 @@ use native.Mathlib.Nat.{mul-le-mul-left}
 use native.Mathlib.Omega.{arith}
 use borrow.Author.Tests.{leb-true}
 use lib.Dec.{eqb}
+use Rattle.grid.specs.Refusals.{DARK, OVERRANGE}
 use Rattle.grid.specs.declared.Check.{Check}
 use Rattle.grid.specs.declared.Check.the-variants.{Fine, Refused}
 use Rattle.grid.specs.Check.{unless, refusal, lightCheck}
@@ -55,7 +56,7 @@ unfolding readingFrom
 reading-small (Refused r) n d = tt
 reading-small Fine n d = go (isFitting (nearest n d)) refl
   where
-    go : (b : Bool) → isFitting (nearest n d) ≡ b → SmallReading (cond b (Reading.Value (nearest n d)) (Reading.Refused (refusal 15 0)))
+    go : (b : Bool) → isFitting (nearest n d) ≡ b → SmallReading (cond b (Reading.Value (nearest n d)) (Reading.Refused (refusal OVERRANGE 0)))
     go true fits = leb-true (nearest n d) largest fits
     go false fits = tt
 
@@ -66,7 +67,7 @@ xyz-small Fine x y z d = go (isFitting (nearest x d) && isFitting (nearest y d) 
   where
     go :
         (b : Bool) → (isFitting (nearest x d) && isFitting (nearest y d) && isFitting (nearest z d)) ≡ b →
-        SmallXyz (cond b (XyzAnswer.Value (record { x = nearest x d; y = nearest y d; z = nearest z d })) (XyzAnswer.Refused (refusal 15 0)))
+        SmallXyz (cond b (XyzAnswer.Value (record { x = nearest x d; y = nearest y d; z = nearest z d })) (XyzAnswer.Refused (refusal OVERRANGE 0)))
     go true fits =
         let two = both (isFitting (nearest x d) && isFitting (nearest y d)) (isFitting (nearest z d)) fits in
         let one = both (isFitting (nearest x d)) (isFitting (nearest y d)) (two .0) in
@@ -80,7 +81,7 @@ xy-small Fine x y z = go (eqb (x + y + z) 0)
   where
     go :
         (b : Bool) →
-        SmallXy (cond b (XyAnswer.Refused (refusal 9 0)) (XyAnswer.Value (record { x = nearest (100000 * x) (x + y + z); y = nearest (100000 * y) (x + y + z) })))
+        SmallXy (cond b (XyAnswer.Refused (refusal DARK 0)) (XyAnswer.Value (record { x = nearest (100000 * x) (x + y + z); y = nearest (100000 * y) (x + y + z) })))
     go true = tt
     go false = (
       nearest-bound 100000 (100000 * x) (x + y + z) (mul-le-mul-left 100000 (omega arith)),

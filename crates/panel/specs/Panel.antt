@@ -6,8 +6,7 @@ use lib.ListN.{length}
 use lib.Dec.{eqb}
 use Rattle.grid.specs.Refusals.{OBSERVER, ILLUMINANT}
 use Rattle.grid.specs.declared.Check.{Check}
-use Rattle.grid.specs.declared.Check.the-variants.{Refused}
-use Rattle.grid.specs.Check.{unless, require, isObserver, gridCheck, reflectancesCheck}
+use Rattle.grid.specs.Check.{unless, require, thenCheck, isObserver, gridCheck, reflectancesCheck}
 use Rattle.mixing.specs.Sum.{total}
 use Rattle.tables.specs.declared.Illuminant.{Illuminant}
 use Rattle.tables.specs.declared.Illuminant.the-variants.{A, D65}
@@ -28,7 +27,7 @@ illuminantOf i = cond (eqb i 2) D65 A
 
 -- a grid under the same rules: STEP, START, COUNT; then REFLECTANCE
 unfoldable pub surfaceCheck : ℕ → ℕ → List ℕ → Check
-surfaceCheck a s rs = unless (gridCheck a s (length rs)) Refused (reflectancesCheck rs)
+surfaceCheck a s rs = thenCheck (gridCheck a s (length rs)) (reflectancesCheck rs)
 
 -- OBSERVER, ILLUMINANT, and then the grid's own refusals
 unfoldable pub settingCheck : ℕ → ℕ → ℕ → ℕ → ℕ → Check

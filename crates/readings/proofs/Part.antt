@@ -4,6 +4,7 @@ use mathlib.Core.List.{List}
 use Prim.Native.Nat.{ℕ, _+_, _^_, _≤_, _<_}
 use native.Mathlib.Omega.{arith}
 use lib.ListN.{length}
+use Rattle.grid.specs.Refusals.{OBSERVER}
 use Rattle.grid.specs.declared.Check.the-variants.{Fine}
 use Rattle.grid.specs.Check.{refusal, isObserver, lightCheck}
 use Rattle.grid.proofs.Limit.{passed}
@@ -46,7 +47,7 @@ pub record AcceptedColour (o a s : ℕ) (xs : List ℕ) : Type 0 where
   pub fine : colourCheck o a s xs ≡ Fine
 
 pub light-of : {o a s : ℕ} {xs : List ℕ} → AcceptedColour o a s xs → AcceptedLight a s xs
-light-of {o} {a} {s} {xs} colour = record { fine = passed (isObserver o) (lightCheck a s xs) (refusal 6 0) (colour .fine) .1 }
+light-of {o} {a} {s} {xs} colour = record { fine = passed (isObserver o) (lightCheck a s xs) (refusal OBSERVER 0) (colour .fine) .1 }
 
 -- an accepted light, and where its part begins
 pub record BegunLight (a s : ℕ) (xs : List ℕ) (b : Begin) : Type 0 where

@@ -3,6 +3,7 @@ use mathlib.Core.Path.{_≡_, refl, ap}
 use mathlib.Core.Bool.{Bool, true, false, cond, _&&_}
 use Prim.Native.Nat.{ℕ}
 use native.Mathlib.Omega.{arith}
+use Rattle.grid.specs.Refusals.{OVERRANGE}
 use Rattle.grid.specs.declared.Refusal.{Refusal}
 use Rattle.grid.specs.Check.{refusal}
 use Rattle.mixing.specs.Nearest.{nearest}
@@ -30,15 +31,15 @@ module _ (x y z d : ℕ) where
   unfolding xyzFrom readingFrom
   photopic-given v e =
       let w : Xyz = record { x = nearest x d; y = nearest y d; z = nearest z d } in
-      let g = value-of (isFitting (nearest x d)) (isFitting (nearest y d)) (isFitting (nearest z d)) w v (refusal 15 0) e in
+      let g = value-of (isFitting (nearest x d)) (isFitting (nearest y d)) (isFitting (nearest z d)) w v (refusal OVERRANGE 0) e in
       rw (g .0) (ap (λ u. Reading.Value (u .y)) (g .1))
 
   -- X, Y, Z that are refused are OVERRANGE
-  overrange : (r : Refusal) → xyzFrom x y z d ≡ XyzAnswer.Refused r → refusal 15 0 ≡ r
+  overrange : (r : Refusal) → xyzFrom x y z d ≡ XyzAnswer.Refused r → refusal OVERRANGE 0 ≡ r
   unfolding xyzFrom
   overrange r e =
       refusal-of (isFitting (nearest x d) && isFitting (nearest y d) && isFitting (nearest z d))
-      (record { x = nearest x d; y = nearest y d; z = nearest z d }) (refusal 15 0) r e
+      (record { x = nearest x d; y = nearest y d; z = nearest z d }) (refusal OVERRANGE 0) r e
 
   pub xyz-refused :
       (r : Refusal) (n : ℕ) (xy : XyAnswer) → xyzFrom x y z d ≡ XyzAnswer.Refused r →
@@ -48,9 +49,9 @@ module _ (x y z d : ℕ) where
       rw e (go (isFitting (nearest y d)) (isFitting (nearest n d)) (overrange r e))
     where
       go :
-          (a b : Bool) → refusal 15 0 ≡ r →
-          together (cond a (Reading.Value (nearest y d)) (Reading.Refused (refusal 15 0)))
-          (cond b (Reading.Value (nearest n d)) (Reading.Refused (refusal 15 0))) (XyzAnswer.Refused r) xy
+          (a b : Bool) → refusal OVERRANGE 0 ≡ r →
+          together (cond a (Reading.Value (nearest y d)) (Reading.Refused (refusal OVERRANGE 0)))
+          (cond b (Reading.Value (nearest n d)) (Reading.Refused (refusal OVERRANGE 0))) (XyzAnswer.Refused r) xy
           ≡ FiguresAnswer.Refused r
       go true true h = refl
       go true false h = ap FiguresAnswer.Refused h

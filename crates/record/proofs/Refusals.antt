@@ -7,6 +7,7 @@ use native.Mathlib.Omega.{arith}
 use borrow.Author.Tests.{le-leb, lt-leb, eq-eqb, ne-eqb, leb-true, eqb-true}
 use lib.ListN.{length}
 use lib.Dec.{leb, eqb}
+use Rattle.grid.specs.Refusals.{EDITION, RESERVED, LENGTH, PADDING}
 use Rattle.grid.specs.Check.{require, refusal, gridCheck, samplesCheck}
 use Rattle.grid.specs.declared.Check.the-variants.{Fine, Refused}
 use Rattle.grid.proofs.Limit.{passed}
@@ -14,17 +15,17 @@ use Rattle.record.specs.Answer.{headerCheck, bodyCheck}
 use Rattle.record.specs.Format.{headerWidths, headerOf, stepOfCode, lengthOf, paddingOf, samplesOf, editionOf, reservedOf, startOf, stepOf, countOf}
 use Rattle.record.proofs.Rows.{digits}
 
-pub short-refused : (bytes : List ℕ) → length bytes < 3 → headerCheck bytes ≡ Refused (refusal 12 0)
+pub short-refused : (bytes : List ℕ) → length bytes < 3 → headerCheck bytes ≡ Refused (refusal LENGTH 0)
 unfolding headerCheck
 short-refused bytes h = rw (lt-leb 3 (length bytes) h)
 
 -- the header as one number of 24 bits
 module _ (bytes : List ℕ) (v : ℕ) (long : 3 ≤ length bytes) (e : headerOf bytes ≡ digits headerWidths v) (small : v < 2 ^ 24) where
-  pub edition-refused : (v / 1048576 ≡ 1 → ⊥) → headerCheck bytes ≡ Refused (refusal 10 0)
+  pub edition-refused : (v / 1048576 ≡ 1 → ⊥) → headerCheck bytes ≡ Refused (refusal EDITION 0)
   unfolding headerCheck
   edition-refused h = rw (le-leb 3 (length bytes) long, e, ne-eqb (v / 1048576 % 16) 1 (λ p. h (omega arith)))
 
-  pub reserved-refused : v / 1048576 ≡ 1 → (v % 2 ≡ 0 → ⊥) → headerCheck bytes ≡ Refused (refusal 11 0)
+  pub reserved-refused : v / 1048576 ≡ 1 → (v % 2 ≡ 0 → ⊥) → headerCheck bytes ≡ Refused (refusal RESERVED 0)
   unfolding headerCheck
   reserved-refused p h =
       rw (le-leb 3 (length bytes) long, e, eq-eqb (v / 1048576 % 16) 1 (omega arith), ne-eqb (v / 1 % 2) 0 (λ q. h (omega arith)))
@@ -36,11 +37,11 @@ module _ (bytes : List ℕ) (v : ℕ) (long : 3 ≤ length bytes) (e : headerOf 
   header-passed p q = rw (le-leb 3 (length bytes) long, e, eq-eqb (v / 1048576 % 16) 1 (omega arith), eq-eqb (v / 1 % 2) 0 (omega arith))
 
 module _ (n : ℕ) (bytes : List ℕ) where
-  pub length-refused : (length bytes ≡ lengthOf n → ⊥) → bodyCheck n bytes ≡ Refused (refusal 12 0)
+  pub length-refused : (length bytes ≡ lengthOf n → ⊥) → bodyCheck n bytes ≡ Refused (refusal LENGTH 0)
   unfolding bodyCheck
   length-refused h = rw (ne-eqb (length bytes) (lengthOf n) h)
 
-  pub padding-refused : length bytes ≡ lengthOf n → eqb (paddingOf n bytes) 0 ≡ false → bodyCheck n bytes ≡ Refused (refusal 13 0)
+  pub padding-refused : length bytes ≡ lengthOf n → eqb (paddingOf n bytes) 0 ≡ false → bodyCheck n bytes ≡ Refused (refusal PADDING 0)
   unfolding bodyCheck
   padding-refused e h = rw (eq-eqb (length bytes) (lengthOf n) e, h)
 
@@ -64,10 +65,10 @@ pub header-fine : (bytes : List ℕ) → headerCheck bytes ≡ Fine → HeaderFi
 unfolding headerCheck
 header-fine bytes e =
     let grid = gridCheck (startOf bytes) (stepOf bytes) (countOf bytes) in
-    let reserved = require (eqb (reservedOf bytes) 0) 11 grid in
-    let long = passed (leb 3 (length bytes)) (require (eqb (editionOf bytes) 1) 10 reserved) (refusal 12 0) e in
-    let first = passed (eqb (editionOf bytes) 1) reserved (refusal 10 0) (long .1) in
-    let clear = passed (eqb (reservedOf bytes) 0) grid (refusal 11 0) (first .1) in
+    let reserved = require (eqb (reservedOf bytes) 0) RESERVED grid in
+    let long = passed (leb 3 (length bytes)) (require (eqb (editionOf bytes) 1) EDITION reserved) (refusal LENGTH 0) e in
+    let first = passed (eqb (editionOf bytes) 1) reserved (refusal EDITION 0) (long .1) in
+    let clear = passed (eqb (reservedOf bytes) 0) grid (refusal RESERVED 0) (first .1) in
     record {
       long = leb-true 3 (length bytes) (long .0);
       edition = eqb-true (editionOf bytes) 1 (first .0);
@@ -79,8 +80,8 @@ pub body-fine : (n : ℕ) (bytes : List ℕ) → bodyCheck n bytes ≡ Fine → 
 unfolding bodyCheck
 body-fine n bytes e =
     let samples = samplesCheck (samplesOf n bytes) in
-    let whole = passed (eqb (length bytes) (lengthOf n)) (require (eqb (paddingOf n bytes) 0) 13 samples) (refusal 12 0) e in
-    let clear = passed (eqb (paddingOf n bytes) 0) samples (refusal 13 0) (whole .1) in
+    let whole = passed (eqb (length bytes) (lengthOf n)) (require (eqb (paddingOf n bytes) 0) PADDING samples) (refusal LENGTH 0) e in
+    let clear = passed (eqb (paddingOf n bytes) 0) samples (refusal PADDING 0) (whole .1) in
     record {
       whole = eqb-true (length bytes) (lengthOf n) (whole .0);
       padding = eqb-true (paddingOf n bytes) 0 (clear .0);

@@ -4,19 +4,15 @@ use Prim.Native.Nat.{ℕ}
 use lib.ListN.{length, drop}
 use lib.Dec.{leb, eqb}
 use Rattle.grid.specs.Refusals.{EDITION, RESERVED, LENGTH, PADDING, ROOM}
-use Rattle.grid.specs.Check.{require, unless, gridCheck, samplesCheck, lightCheck}
+use Rattle.grid.specs.Check.{require, unless, thenCheck, gridCheck, samplesCheck, lightCheck}
 use Rattle.grid.specs.declared.Check.{Check}
-use Rattle.grid.specs.declared.Check.the-variants.{Fine, Refused}
+use Rattle.grid.specs.declared.Check.the-variants.{Fine}
 use Rattle.record.specs.Format.{editionOf, reservedOf, startOf, stepOf, countOf, samplesOf, paddingOf, lengthOf, recordOf}
 use Rattle.record.specs.declared.Header.{Header}
 use Rattle.record.specs.declared.RecordRead.{RecordRead}
 use Rattle.record.specs.declared.RecordRead.the-variants as read
 use Rattle.record.specs.declared.RecordWritten.{RecordWritten}
 use Rattle.record.specs.declared.RecordWritten.the-variants as written
-
--- one check, and where it is fine the next
-abbrev pub thenCheck : Check → Check → Check
-thenCheck check next = unless check Refused next
 
 -- LENGTH where under 3 bytes, EDITION, RESERVED, START, COUNT
 unfoldable pub headerCheck : List ℕ → Check

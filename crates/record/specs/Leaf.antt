@@ -2,11 +2,11 @@
 use mathlib.Core.List.{List, _++_}
 use Prim.Native.Nat.{ℕ, _+_, _*_, _/_}
 use lib.ListN.{length, take, drop, getD}
-use Rattle.grid.specs.Check.{unless}
+use Rattle.grid.specs.Check.{unless, thenCheck}
 use Rattle.grid.specs.declared.Check.{Check}
 use Rattle.record.specs.Bits.{pack, cut, bytewise}
 use Rattle.record.specs.Format.{bodyWidths, bodyFields, startOf, stepOf, countOf, samplesOf}
-use Rattle.record.specs.Answer.{thenCheck, headerCheck, bodyCheck, roomCheck, header}
+use Rattle.record.specs.Answer.{headerCheck, bodyCheck, roomCheck, header}
 use Rattle.record.specs.declared.RecordRead.{RecordRead}
 use Rattle.record.specs.declared.RecordRead.the-variants.{Read, Refused}
 

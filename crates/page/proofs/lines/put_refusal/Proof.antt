@@ -5,6 +5,7 @@ use Prim.Native.Nat.{_+_}
 use native.Mathlib.Omega.{arith}
 use borrow.Author.Tests.{eq-eqb, ne-eqb}
 use lib.ListN.{length, length-append}
+use Rattle.grid.specs.Refusals.{SAMPLE}
 use Rattle.grid.specs.declared.Refusal.{Refusal}
 use Rattle.page.specs.Text.{ascii}
 use Rattle.page.specs.Report.{decimal, numbered}
@@ -13,14 +14,14 @@ use borrow.Author.Needs.{needs}
 use Rattle.page.proofs.lines.put_refusal.Statement.{statement}
 use Rattle.page.proofs.lines.put_refusal.Tie as tie
 
-placed : (r : Refusal) → r .number ≡ 4 → numbered r ≡ decimal (r .number) ++ (ascii " at " ++ decimal (r .place))
+placed : (r : Refusal) → r .number ≡ SAMPLE → numbered r ≡ decimal (r .number) ++ (ascii " at " ++ decimal (r .place))
 unfolding numbered
 placed r e = rw (eq-eqb (r .number) 4 e)
 
-long : (r : Refusal) → r .number ≡ 4 → length (numbered r) ≡ length (decimal (r .number)) + (4 + length (decimal (r .place)))
+long : (r : Refusal) → r .number ≡ SAMPLE → length (numbered r) ≡ length (decimal (r .number)) + (4 + length (decimal (r .place)))
 long r e = rw (placed r e) (simp length-append)
 
-unplaced : (r : Refusal) → (r .number ≡ 4 → ⊥) → numbered r ≡ decimal (r .number)
+unplaced : (r : Refusal) → (r .number ≡ SAMPLE → ⊥) → numbered r ≡ decimal (r .number)
 unfolding numbered
 unplaced r h = rw (ne-eqb (r .number) 4 h, append-nil)
 

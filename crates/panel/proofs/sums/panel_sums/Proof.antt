@@ -4,6 +4,7 @@ use mathlib.Core.List.{List}
 use Prim.Native.Nat.{ℕ, _≤_}
 use native.Mathlib.Omega.{arith}
 use lib.ListN.{length}
+use Rattle.grid.specs.Refusals.{REFLECTANCE}
 use Rattle.grid.specs.declared.Check.the-variants.{Fine}
 use Rattle.grid.specs.Check.{reflectancesCheck}
 use Rattle.grid.proofs.Accepted.{OnGrid, accepted}
@@ -67,7 +68,7 @@ part-sums-requires c κs =
     let told = setting (begin .before) in
     let rs = given told in
     begun (start told .args .start) (start told .args .step) rs (on-grid told) (begin .begin-at-360 .result) (begin .begin-at-360 .ensures) 10000
-    (fine-within 8 10000 0 rs (reflectances-fine (begin .before)))
+    (fine-within REFLECTANCE 10000 0 rs (reflectances-fine (begin .before)))
 
 returns : tie.Need-returns
 unfolding SumsOf
