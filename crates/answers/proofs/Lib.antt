@@ -2,3 +2,4 @@
 pub mod Fitting
 pub mod Values
 pub mod Mixed
+pub mod FromSums

@@ -1,6 +1,4 @@
-// What is worked from exact sums: readings, X, Y, Z, coordinates and the chart's point. Each divides once, at the end.
-use crate::ChartPoint;
-use crate::OnChart;
+// What is worked from exact sums: readings, X, Y, Z and coordinates. Each divides once, at the end.
 use crate::Reading;
 use crate::Xy;
 use crate::XyAnswer;
@@ -18,7 +16,7 @@ ghost use mathlib.Core.Path.{_≡_};
 ghost use Prim.Native.Nat.{_+_, _*_, _^_, _≤_, _<_};
 ghost use Rattle.mixing.specs.Nearest.{nearest as nearestOf};
 ghost use Rattle.exact.specs.Value.{short};
-ghost use Rattle.answers.specs.Worked.{readingFrom, xyzFrom, xyFrom, onChart, chartPoint, coordinateFloat};
+ghost use Rattle.answers.specs.Worked.{readingFrom, xyzFrom, xyFrom};
 
 // The reading n · f / d.
 pub fn reading_from(n: Short, f: u32, d: Short) -> Reading
@@ -89,30 +87,4 @@ fn coordinate(part: Short, total: Short) -> u32
     ensures { λ r. ⌜ r ≡ nearestOf (100000 * short part) (short total) ⌝ }
 {
     nearest(part, 100000, total) as u32
-}
-
-// The chart's point of x and y: dark where they are refused.
-pub fn on_chart(xy: XyAnswer) -> OnChart
-    ensures { λ r. ⌜ r ≡ onChart xy ⌝ }
-{
-    match xy {
-        XyAnswer::Value(v) => OnChart::Point(chart_point(v)),
-        XyAnswer::Refused(_) => OnChart::Dark,
-    }
-}
-
-fn chart_point(xy: Xy) -> ChartPoint
-    ensures { λ r. ⌜ r ≡ chartPoint xy ⌝ }
-{
-    ChartPoint {
-        x: coordinate_float(xy.x),
-        y: coordinate_float(xy.y),
-    }
-}
-
-// So many hundred-thousandths as a float: made a float exactly, and divided once.
-fn coordinate_float(n: u32) -> f64
-    ensures { λ r. ⌜ r ≡ coordinateFloat n ⌝ }
-{
-    n as f64 / 100000.0
 }

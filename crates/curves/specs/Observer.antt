@@ -6,6 +6,7 @@ use Prim.Native.Nat.{ℕ}
 use lib.Dec.{eqb}
 use Rattle.exact.specs.Value.{short}
 use Rattle.mixing.specs.Sum.{weighted, entryOf}
+use Rattle.tables.specs.declared.Curve.{Curve}
 use Rattle.tables.specs.declared.Curve.the-variants.{XBar, YBar, ZBar, XBar10, YBar10, ZBar10}
 use Rattle.tables.specs.Curves.{weightOf}
 use Rattle.curves.specs.declared.weigh.ObserverCurves.{ObserverCurves}
@@ -19,8 +20,12 @@ ofObserver o two ten = cond (eqb o 10) ten two
 abbrev pub curvesOf : ℕ → ObserverCurves
 curvesOf o = record { x = ofObserver o XBar XBar10; y = ofObserver o YBar YBar10; z = ofObserver o ZBar ZBar10 }
 
--- the sums of a row, weighed by the observer's curves
-pub record RowSums (o : ℕ) (row : List ℕ) (sums : Sums) : Type 0 where
-  pub x : short (sums .x) ≡ weighted 471 (weightOf (curvesOf o .x)) (entryOf row)
-  pub y : short (sums .y) ≡ weighted 471 (weightOf (curvesOf o .y)) (entryOf row)
-  pub z : short (sums .z) ≡ weighted 471 (weightOf (curvesOf o .z)) (entryOf row)
+-- three sums, one by each of the observer's curves
+pub record SumsBy (o : ℕ) (by : Curve → ℕ) (sums : Sums) : Type 0 where
+  pub x : short (sums .x) ≡ by (curvesOf o .x)
+  pub y : short (sums .y) ≡ by (curvesOf o .y)
+  pub z : short (sums .z) ≡ by (curvesOf o .z)
+
+-- those of a row that is weighed by the curves
+abbrev pub RowSums : ℕ → List ℕ → Sums → Type 0
+RowSums o row sums = SumsBy o (λ c. weighted 471 (weightOf c) (entryOf row)) sums

@@ -1,17 +1,17 @@
--- What is worked from a panel's sums is the definition's; and a refusal is the panel's.
+-- What is worked from the sums of an accepted panel is the definition's.
 use mathlib.Core.Path.{_≡_}
 use mathlib.Core.List.{List}
 use Prim.Native.Nat.{ℕ, _+_, _*_, _^_, _≤_, _<_}
 use native.Mathlib.Nat.{mul-comm}
-use Rattle.grid.specs.declared.Check.{Check}
 use Rattle.grid.specs.declared.Check.the-variants.{Fine}
-use Rattle.grid.specs.declared.Refusal.{Refusal}
 use Rattle.exact.specs.Value.{short}
 use Rattle.curves.specs.declared.weigh.Sums.{Sums}
 use Rattle.answers.specs.Worked.{xyzFrom, xyFrom}
-use Rattle.panel.specs.declared.sums.SumsAnswer.{SumsAnswer}
+use Rattle.answers.specs.declared.summed.SumsAnswer.{SumsAnswer}
+use Rattle.answers.specs.Summed.{ShortTotal}
+use Rattle.answers.proofs.FromSums.{given-sums}
 use Rattle.panel.specs.Panel.{panelCheck, whiteSum, xSum, ySum, zSum}
-use Rattle.panel.specs.Sums.{PanelSums, SumsOf}
+use Rattle.panel.specs.Sums.{PanelSums, PanelSummed}
 use Rattle.panel.proofs.Surface.{surface-fine, on-grid}
 use Rattle.panel.proofs.Sized.{colour-small}
 
@@ -26,19 +26,14 @@ pub record Worked (o i a s : ℕ) (rs : List ℕ) (sums : Sums) : Type 0 where
       ≡ xyzFrom (10 * xSum o i a s rs) (10 * ySum o i a s rs) (10 * zSum o i a s rs) (s * whiteSum o i)
   pub xy : xyFrom (short (sums .x)) (short (sums .y)) (short (sums .z)) ≡ xyFrom (xSum o i a s rs) (ySum o i a s rs) (zSum o i a s rs)
 
-module _ (o i a s : ℕ) (rs : List ℕ) (answer : SumsAnswer) (is : SumsOf o i a s rs answer) where
-  pub refused : (r : Refusal) → answer ≡ SumsAnswer.Refused r → panelCheck o i a s rs ≡ Check.Refused r
-  unfolding SumsOf
-  refused r e = rw e at is
-
+module _ (o i a s : ℕ) (rs : List ℕ) (answer : SumsAnswer) (is : PanelSummed o i a s rs answer) where
   pub worked : (sums : Sums) → answer ≡ SumsAnswer.Given sums → Worked o i a s rs sums
-  unfolding SumsOf
-  worked sums given =
-      let passed : panelCheck o i a s rs ≡ Fine = (rw given at is) .0 in
-      let are : PanelSums o i a s rs sums = (rw given at is) .1 in
-      let surface = surface-fine o i a s rs passed in
+  worked sums e =
+      let given = given-sums (panelCheck o i a s rs) o _ answer is sums e in
+      let are : PanelSums o i a s rs sums = given .1 in
+      let surface = surface-fine o i a s rs (given .0) in
       record {
-        fine = passed;
+        fine = given .0;
         step-small = on-grid a s rs surface .step-high;
         total-small = rw (are .x, are .y, are .z) (colour-small a s rs surface o i);
         xyz = λ d e.
@@ -53,3 +48,6 @@ module _ (o i a s : ℕ) (rs : List ℕ) (answer : SumsAnswer) (is : SumsOf o i 
             );
         xy = rw (are .x, are .y, are .z);
       }
+
+  pub short-total : ShortTotal answer
+  short-total sums e = worked sums e .total-small

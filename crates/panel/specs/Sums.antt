@@ -1,20 +1,18 @@
 -- What the three sums of a panel stand for, and when they are given.
-use mathlib.Core.Path.{_≡_}
 use mathlib.Core.List.{List}
 use Prim.Native.Nat.{ℕ}
-use Rattle.grid.specs.declared.Check.{Check}
-use Rattle.grid.specs.declared.Check.the-variants.{Fine}
-use Rattle.exact.specs.Value.{short}
+use Rattle.spectrum.specs.Line.{W}
 use Rattle.curves.specs.declared.weigh.Sums.{Sums}
-use Rattle.panel.specs.declared.sums.SumsAnswer.{SumsAnswer}
-use Rattle.panel.specs.Panel.{panelCheck, xSum, ySum, zSum}
+use Rattle.curves.specs.Observer.{SumsBy}
+use Rattle.curves.specs.Lit.{litBy}
+use Rattle.answers.specs.declared.summed.SumsAnswer.{SumsAnswer}
+use Rattle.answers.specs.Summed.{Summed}
+use Rattle.panel.specs.Panel.{illuminantOf, panelCheck}
 
-pub record PanelSums (o i a s : ℕ) (rs : List ℕ) (sums : Sums) : Type 0 where
-  pub x : short (sums .x) ≡ xSum o i a s rs
-  pub y : short (sums .y) ≡ ySum o i a s rs
-  pub z : short (sums .z) ≡ zSum o i a s rs
+-- W of the illuminant times each of the observer's curves
+abbrev pub PanelSums : ℕ → ℕ → ℕ → ℕ → List ℕ → Sums → Type 0
+PanelSums o i a s rs sums = SumsBy o (λ c. W (litBy (illuminantOf i) c) a s rs) sums
 
--- the sums of an accepted panel; of any other, its first refusal
-unfoldable pub SumsOf : ℕ → ℕ → ℕ → ℕ → List ℕ → SumsAnswer → Type 0
-SumsOf o i a s rs (SumsAnswer.Given sums) = (panelCheck o i a s rs ≡ Fine) × PanelSums o i a s rs sums
-SumsOf o i a s rs (SumsAnswer.Refused refusal) = panelCheck o i a s rs ≡ Check.Refused refusal
+-- those of an accepted panel; of any other, its first refusal
+abbrev pub PanelSummed : ℕ → ℕ → ℕ → ℕ → List ℕ → SumsAnswer → Type 0
+PanelSummed o i a s rs answer = Summed (panelCheck o i a s rs) o (λ c. W (litBy (illuminantOf i) c) a s rs) answer

@@ -1,10 +1,10 @@
 // A panel's X, Y, Z and x, y in one call: each sum is made once.
-use crate::sums::SumsAnswer;
 use crate::sums::panel_sums;
 use crate::white::divisor;
 use answers::XyAnswer;
 use answers::Xyz;
 use answers::XyzAnswer;
+use answers::summed::SumsAnswer;
 use answers::work::xy_from;
 use answers::work::xyz_from;
 use curves::weigh::Sums;

@@ -5,14 +5,14 @@ mod reflectances;
 mod sums;
 mod white;
 
-use crate::sums::SumsAnswer;
 use crate::sums::panel_sums;
 use crate::white::divisor;
 use answers::ChartAnswer;
 use answers::XyAnswer;
 use answers::XyzAnswer;
-use answers::work::on_chart;
-use answers::work::xy_from;
+use answers::summed::SumsAnswer;
+use answers::summed::chart_of;
+use answers::summed::xy_of;
 use answers::work::xyz_from;
 ghost use mathlib.Core.Path.{_≡_};
 ghost use Rattle.panel.specs.Panel.{panelXyzOf, panelXyOf, panelChartOf};
@@ -44,11 +44,7 @@ pub fn panel_xy(
 ) -> XyAnswer
     ensures { λ r. ⌜ r ≡ panelXyOf observer illuminant start step (now (reflectances .entry)) ⌝ }
 {
-    let answer = panel_sums(observer, illuminant, start, step, reflectances);
-    match answer {
-        SumsAnswer::Given(sums) => xy_from(sums),
-        SumsAnswer::Refused(refusal) => XyAnswer::Refused(refusal),
-    }
+    xy_of(panel_sums(observer, illuminant, start, step, reflectances))
 }
 
 // The chart's point, or dark.
@@ -61,9 +57,5 @@ pub fn panel_chart(
 ) -> ChartAnswer
     ensures { λ r. ⌜ r ≡ panelChartOf observer illuminant start step (now (reflectances .entry)) ⌝ }
 {
-    let answer = panel_sums(observer, illuminant, start, step, reflectances);
-    match answer {
-        SumsAnswer::Given(sums) => ChartAnswer::Given(on_chart(xy_from(sums))),
-        SumsAnswer::Refused(refusal) => ChartAnswer::Refused(refusal),
-    }
+    chart_of(panel_sums(observer, illuminant, start, step, reflectances))
 }

@@ -1,9 +1,8 @@
 // The three sums of a panel, or its first refusal.
 use crate::part::part_sums;
 use crate::reflectances::check_reflectances;
-use curves::weigh::Sums;
+use answers::summed::SumsAnswer;
 use grid::Check;
-use grid::Refusal;
 use grid::check_grid;
 use grid::is_observer;
 use grid::refusals::ILLUMINANT;
@@ -12,12 +11,7 @@ use grid::refused;
 use spectrum::line::begin_at_360;
 ghost use mathlib.Core.Path.{_≡_};
 ghost use Rattle.panel.specs.Panel.{isIlluminant, settingCheck};
-ghost use Rattle.panel.specs.Sums.{SumsOf};
-
-pub enum SumsAnswer {
-    Given(Sums),
-    Refused(Refusal),
-}
+ghost use Rattle.panel.specs.Sums.{PanelSummed};
 
 pub fn panel_sums(
     observer: u32,
@@ -26,7 +20,7 @@ pub fn panel_sums(
     step: u32,
     reflectances: &[u16],
 ) -> SumsAnswer
-    ensures { λ r. ⌜ SumsOf observer illuminant start step (now (reflectances .entry)) r ⌝ }
+    ensures { λ r. ⌜ PanelSummed observer illuminant start step (now (reflectances .entry)) r ⌝ }
 {
     let setting = check_setting(observer, illuminant, start, step, reflectances.len());
     match setting {

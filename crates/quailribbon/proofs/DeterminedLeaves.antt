@@ -43,7 +43,8 @@ use Rattle.spectrum.proofs.line.lay.Reads as lay
 use Rattle.answers.proofs.work.reading_from.Reads as reading-from
 use Rattle.answers.proofs.work.xyz_from.Reads as xyz-from
 use Rattle.answers.proofs.work.xy_from.Reads as xy-from
-use Rattle.answers.proofs.work.on_chart.Reads as on-chart
+use Rattle.answers.proofs.summed.xy_of.Reads as xy-of
+use Rattle.answers.proofs.summed.chart_of.Reads as chart-of
 
 -- The contract of a number in digits gives its value, which fixes the digits since each below the highest fits its field.
 -- That a u32 is below 2^32 and a u64 below 2^64 is said by the result's type, and no contract repeats it; so here it is
@@ -206,5 +207,8 @@ one-xyz-from k a r q e f p s = same p s
 one-xy-from : OneResult xy-from.Post
 one-xy-from k a r q e f p s = same p s
 
-one-on-chart : OneResult on-chart.Post
-one-on-chart k a r q e f p s = same p s
+one-xy-of : OneResult xy-of.Post
+one-xy-of k a r q e f p s = same p s
+
+one-chart-of : OneResult chart-of.Post
+one-chart-of k a r q e f p s = same p s

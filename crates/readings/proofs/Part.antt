@@ -1,5 +1,5 @@
 -- What is known of an accepted light, and of its part that begins at or just below 360: the part is summed as the light is.
-use mathlib.Core.Path.{_≡_, _∙_}
+use mathlib.Core.Path.{_≡_}
 use mathlib.Core.List.{List}
 use Prim.Native.Nat.{ℕ, _+_, _^_, _≤_, _<_}
 use native.Mathlib.Omega.{arith}
@@ -14,11 +14,15 @@ use Rattle.tables.specs.declared.Curve.{Curve}
 use Rattle.tables.specs.Curves.{weightOf}
 use Rattle.curves.specs.declared.weigh.Sums.{Sums}
 use Rattle.curves.specs.Observer.{curvesOf}
+use Rattle.curves.proofs.Sums.{sums-equal}
 use Rattle.spectrum.specs.Begin.{Begins, Begun}
 use Rattle.spectrum.specs.declared.line.Begin.{Begin}
 use Rattle.spectrum.proofs.Begin.{partFrom, few, begun, W-begun}
+use Rattle.answers.specs.declared.summed.SumsAnswer.{SumsAnswer}
+use Rattle.answers.specs.Summed.{ShortTotal}
+use Rattle.answers.proofs.FromSums.{given-sums}
 use Rattle.readings.specs.Readings.{weighed, colourCheck}
-use Rattle.readings.specs.Colour.{LightSums}
+use Rattle.readings.specs.Colour.{LightSums, LightSummed}
 use Rattle.readings.proofs.Small.{sum-small}
 
 -- a light that passed its checks
@@ -42,12 +46,14 @@ module _ {a s : ℕ} {xs : List ℕ} (light : AcceptedLight a s xs) where
       let z = small (curvesOf o .z) in
       rw (is .x, is .y, is .z) (omega arith)
 
--- one whose observer passed too
-pub record AcceptedColour (o a s : ℕ) (xs : List ℕ) : Type 0 where
-  pub fine : colourCheck o a s xs ≡ Fine
+-- and so did one whose observer passed too
+pub light-of : (o a s : ℕ) (xs : List ℕ) → colourCheck o a s xs ≡ Fine → AcceptedLight a s xs
+light-of o a s xs fine = record { fine = passed (isObserver o) (lightCheck a s xs) (refusal OBSERVER 0) fine .1 }
 
-pub light-of : {o a s : ℕ} {xs : List ℕ} → AcceptedColour o a s xs → AcceptedLight a s xs
-light-of {o} {a} {s} {xs} colour = record { fine = passed (isObserver o) (lightCheck a s xs) (refusal OBSERVER 0) (colour .fine) .1 }
+pub short-total : (o a s : ℕ) (xs : List ℕ) (answer : SumsAnswer) → LightSummed o a s xs answer → ShortTotal answer
+short-total o a s xs answer is sums e =
+    let given = given-sums (colourCheck o a s xs) o _ answer is sums e in
+    total-small (light-of o a s xs (given .0)) (given .1)
 
 -- an accepted light, and where its part begins
 pub record BegunLight (a s : ℕ) (xs : List ℕ) (b : Begin) : Type 0 where
@@ -65,8 +71,4 @@ module _ {a s : ℕ} {xs : List ℕ} {b : Begin} (part : BegunLight a s xs b) wh
   weighed-begun c = W-begun a s xs (on-grid a s xs (part .light .fine)) b (part .begins) (weightOf c)
 
   pub colour-begun : {o : ℕ} {sums : Sums} → LightSums o (b .wavelength) s (partFrom (b .place) xs) sums → LightSums o a s xs sums
-  colour-begun {o} is = record {
-    x = is .x ∙ weighed-begun (curvesOf o .x);
-    y = is .y ∙ weighed-begun (curvesOf o .y);
-    z = is .z ∙ weighed-begun (curvesOf o .z);
-  }
+  colour-begun {o} {sums} is = sums-equal o _ _ weighed-begun sums is

@@ -4,15 +4,20 @@ use mathlib.Core.List.{List}
 use Prim.Native.Nat.{ℕ}
 use Rattle.exact.specs.Value.{short}
 use Rattle.curves.specs.declared.weigh.Sums.{Sums}
+use Rattle.curves.specs.Observer.{SumsBy}
+use Rattle.answers.specs.declared.summed.SumsAnswer.{SumsAnswer}
+use Rattle.answers.specs.Summed.{Summed}
 use Rattle.tables.specs.declared.Curve.the-variants.{VPrime}
 use Rattle.readings.specs.declared.sums.FigureSums.{FigureSums}
-use Rattle.readings.specs.Readings.{weighed, xSum, ySum, zSum}
+use Rattle.readings.specs.Readings.{weighed, colourCheck}
 
 -- W of each of the observer's curves
-pub record LightSums (o a s : ℕ) (xs : List ℕ) (sums : Sums) : Type 0 where
-  pub x : short (sums .x) ≡ xSum o a s xs
-  pub y : short (sums .y) ≡ ySum o a s xs
-  pub z : short (sums .z) ≡ zSum o a s xs
+abbrev pub LightSums : ℕ → ℕ → ℕ → List ℕ → Sums → Type 0
+LightSums o a s xs sums = SumsBy o (λ c. weighed c a s xs) sums
+
+-- those of an accepted light; of any other, its first refusal
+abbrev pub LightSummed : ℕ → ℕ → ℕ → List ℕ → SumsAnswer → Type 0
+LightSummed o a s xs answer = Summed (colourCheck o a s xs) o (λ c. weighed c a s xs) answer
 
 -- those of observer 2, and W(V′)
 pub record FigureSumsOf (a s : ℕ) (xs : List ℕ) (sums : FigureSums) : Type 0 where

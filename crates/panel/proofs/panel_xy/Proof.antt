@@ -1,43 +1,20 @@
--- The coordinates come from the exact sums of an accepted panel.
+-- The coordinates are worked from the sums of an accepted panel.
 use mathlib.Core.Path.{_∙_}
+use Rattle.answers.proofs.FromSums.{xy-summed}
 use Rattle.panel.specs.Panel.{panelXyOf}
-use Rattle.panel.proofs.Worked.{refused, worked}
+use Rattle.panel.proofs.Worked.{short-total}
 use borrow.Author.Needs.{needs}
 use Rattle.panel.proofs.panel_xy.Statement.{statement}
 use Rattle.panel.proofs.panel_xy.Tie as tie
 
-abbrev summed : tie.After-known-told → tie.After-panel-sums
-summed c = c .before .before .before
-
-xy-from-requires : tie.Need-xy-from-requires
-xy-from-requires c κs =
-    let p = summed c in
-    let t = p .before .before .args in
-    let w = worked (t .observer) (t .illuminant) (t .start) (t .step) (t .reflectances .now) (p .panel-sums .result) (p .panel-sums .ensures) _ (c .before .answer .given .1) in
-    w .total-small
+xy-of-requires : tie.Need-xy-of-requires
+xy-of-requires c κs =
+    let t = c .before .before .args in
+    short-total (t .observer) (t .illuminant) (t .start) (t .step) (t .reflectances .now) (c .panel-sums .result) (c .panel-sums .ensures)
 
 returns : tie.Need-returns
 unfolding panelXyOf
-returns c =
-    let p = summed (c .before) in
-    let t = p .before .before .args in
-    let w = worked (t .observer) (t .illuminant) (t .start) (t .step) (t .reflectances .now) (p .panel-sums .result) (p .panel-sums .ensures) _ (c .before .before .answer .given .1) in
-    rw (w .fine) (c .xy-from .ensures ∙ w .xy)
-
-returns-2 : tie.Need-returns-2
-unfolding panelXyOf
-returns-2 c =
-    let p = c .before .before .before in
-    let t = p .before .before .args in
-    rw (refused (t .observer) (t .illuminant) (t .start) (t .step) (t .reflectances .now) (p .panel-sums .result) (p .panel-sums .ensures) _ (c .before .answer2 .given .1))
+returns c = c .xy-of .ensures ∙ xy-summed _ _ _ (c .before .panel-sums .result) (c .before .panel-sums .ensures)
 
 pub panel-xy-spec : {M : Type 1} → statement M
-panel-xy-spec =
-    tie.close
-    (tie.spec
-    (λ c κs. search needs)
-    (λ c. search needs)
-    xy-from-requires
-    (λ c. search needs)
-    returns
-    returns-2)
+panel-xy-spec = tie.close (tie.spec (λ c κs. search needs) xy-of-requires returns)

@@ -1,7 +1,8 @@
 -- X, Y, Z and x, y come from the same sums of an accepted panel.
 use mathlib.Core.Path.{_∙_}
+use Rattle.answers.proofs.FromSums.{refused-sums}
 use Rattle.panel.specs.Panel.{panelXyzOf, panelXyOf}
-use Rattle.panel.proofs.Worked.{refused, worked}
+use Rattle.panel.proofs.Worked.{Worked, worked}
 use borrow.Author.Needs.{needs}
 use Rattle.panel.proofs.figures.panel_figures.Statement.{statement}
 use Rattle.panel.proofs.figures.panel_figures.Tie as tie
@@ -9,34 +10,32 @@ use Rattle.panel.proofs.figures.panel_figures.Tie as tie
 abbrev summed : tie.After-known-told → tie.After-panel-sums
 summed c = c .before .before .before
 
+-- what is worked from the sums where they are given
+work :
+    (c : tie.After-known-told) →
+    let t = summed c .before .before .args in
+    Worked (t .observer) (t .illuminant) (t .start) (t .step) (t .reflectances .now) (c .before .answer .given .0 .0)
+work c = let p = summed c in worked _ _ _ _ _ (p .panel-sums .result) (p .panel-sums .ensures) _ (c .before .answer .given .1)
+
 divisor-requires : tie.Need-divisor-requires
 divisor-requires c κs =
-    let p = summed c in
-    let t = p .before .before .args in
-    let w = worked (t .observer) (t .illuminant) (t .start) (t .step) (t .reflectances .now) (p .panel-sums .result) (p .panel-sums .ensures) _ (c .before .answer .given .1) in
-    w .step-small
+    work c .step-small
 
 figures-from-requires : tie.Need-figures-from-requires
 figures-from-requires c κs =
-    let p = summed (c .before) in
-    let t = p .before .before .args in
-    let w = worked (t .observer) (t .illuminant) (t .start) (t .step) (t .reflectances .now) (p .panel-sums .result) (p .panel-sums .ensures) _ (c .before .before .answer .given .1) in
-    w .total-small
+    work (c .before) .total-small
 
 returns : tie.Need-returns
 unfolding panelXyzOf panelXyOf
 returns c =
-    let p = summed (c .before .before) in
-    let t = p .before .before .args in
-    let w = worked (t .observer) (t .illuminant) (t .start) (t .step) (t .reflectances .now) (p .panel-sums .result) (p .panel-sums .ensures) _ (c .before .before .before .answer .given .1) in
+    let w = work (c .before .before) in
     rw (w .fine) (c .figures-from .ensures ∙ rw (w .xyz _ (c .before .divisor .ensures), w .xy))
 
 returns-2 : tie.Need-returns-2
 unfolding panelXyzOf panelXyOf
 returns-2 c =
     let p = c .before .before .before in
-    let t = p .before .before .args in
-    rw (refused (t .observer) (t .illuminant) (t .start) (t .step) (t .reflectances .now) (p .panel-sums .result) (p .panel-sums .ensures) _ (c .before .answer2 .given .1))
+    rw (refused-sums _ _ _ (p .panel-sums .result) (p .panel-sums .ensures) _ (c .before .answer2 .given .1))
 
 pub panel-figures-spec : {M : Type 1} → statement M
 panel-figures-spec =

@@ -11,7 +11,7 @@ use Rattle.grid.proofs.Accepted.{OnGrid, accepted}
 use Rattle.grid.proofs.Limit.{fine-within}
 use Rattle.spectrum.proofs.Begin.{few, begun}
 use Rattle.panel.specs.Panel.{settingCheck}
-use Rattle.panel.specs.Sums.{SumsOf}
+use Rattle.answers.specs.Summed.{Summed}
 use Rattle.panel.proofs.Surface.{panel-checked, setting-grid}
 use Rattle.panel.proofs.Weighed.{panel-begun}
 use borrow.Author.Needs.{needs}
@@ -71,7 +71,7 @@ part-sums-requires c κs =
     (fine-within REFLECTANCE 10000 0 rs (reflectances-fine (begin .before)))
 
 returns : tie.Need-returns
-unfolding SumsOf
+unfolding Summed
 returns c =
     let begin = c .before .before in
     let told = setting (begin .before) in
@@ -82,7 +82,7 @@ returns c =
     )
 
 returns-2 : tie.Need-returns-2
-unfolding SumsOf
+unfolding Summed
 returns-2 c =
     let told = c .before .before .before .before in
     let t = start told .args in
@@ -90,7 +90,7 @@ returns-2 c =
     ∙ rw (setting-fine told) (sym (c .before .before .before .check-reflectances .ensures) ∙ c .before .limit .given .1)
 
 returns-3 : tie.Need-returns-3
-unfolding SumsOf
+unfolding Summed
 returns-3 c =
     let s = c .before .before .before .before .before .args in
     panel-checked (s .observer) (s .illuminant) (s .start) (s .step) (s .reflectances .now)

@@ -1,45 +1,51 @@
 -- Each of X, Y, Z is its sum times the efficacy, divided once.
-use mathlib.Core.Path.{_∙_, sym}
+use mathlib.Core.Path.{_≡_}
+use Rattle.grid.specs.declared.Check.the-variants.{Fine}
 use Rattle.answers.proofs.Values.{xyz-factor}
-use Rattle.readings.specs.Readings.{xyzOf}
-use Rattle.readings.proofs.Part.{AcceptedColour, light-of, step-small}
+use Rattle.answers.proofs.FromSums.{given-sums, refused-sums}
+use Rattle.readings.specs.Readings.{xyzOf, colourCheck}
+use Rattle.readings.specs.Colour.{LightSums}
+use Rattle.readings.proofs.Part.{light-of, step-small}
 use borrow.Author.Needs.{needs}
 use Rattle.readings.proofs.colour.xyz.Statement.{statement}
 use Rattle.readings.proofs.colour.xyz.Tie as tie
 
-abbrev begin : tie.After-enum-told → tie.Start
-begin c = c .before .before .before .before
+abbrev summed : tie.After-known-told → tie.After-light-sums
+summed c = c .before .before .before
 
-colour :
-    (c : tie.After-enum-told) → let t = begin c .args in AcceptedColour (t .observer) (t .start) (t .step) (t .samples .now)
-colour c = record { fine = sym (c .before .before .check-colour .ensures) ∙ c .enum-told .given .1 }
-
-light-sums-requires : tie.Need-light-sums-requires
-light-sums-requires c κs = light-of (colour c) .fine
+given :
+    (c : tie.After-known-told) →
+    let t = summed c .before .before .args in
+    (colourCheck (t .observer) (t .start) (t .step) (t .samples .now) ≡ Fine)
+    × LightSums (t .observer) (t .start) (t .step) (t .samples .now) (c .before .answer .given .0 .0)
+given c = let p = summed c in given-sums _ _ _ (p .light-sums .result) (p .light-sums .ensures) _ (c .before .answer .given .1)
 
 scale-requires : tie.Need-scale-requires
-scale-requires c κs = step-small (light-of (colour (c .before .before)))
+scale-requires c κs =
+    let t = summed (c .before) .before .before .args in
+    step-small (light-of (t .observer) (t .start) (t .step) (t .samples .now) (given (c .before) .0))
 
 returns : tie.Need-returns
 unfolding xyzOf
 returns c =
     let divisor = c .before in
-    let sums = divisor .before .before in
-    let is = sums .light-sums .ensures in
+    let is = given (divisor .before .before) in
     rw (
       c .xyz-from .ensures,
       xyz-factor,
-      is .x,
-      is .y,
-      is .z,
+      is .1 .x,
+      is .1 .y,
+      is .1 .z,
       divisor .before .efficacy .ensures,
       divisor .scale .ensures,
-      colour (sums .before) .fine,
+      is .0,
     )
 
 returns-2 : tie.Need-returns-2
 unfolding xyzOf
-returns-2 c = rw (sym (c .before .before .before .check-colour .ensures) ∙ c .before .check .given .1)
+returns-2 c =
+    let p = c .before .before .before in
+    rw (refused-sums _ _ _ (p .light-sums .result) (p .light-sums .ensures) _ (c .before .answer2 .given .1))
 
 pub xyz-spec : {M : Type 1} → statement M
 xyz-spec =
@@ -47,7 +53,6 @@ xyz-spec =
     (tie.spec
     (λ c κs. search needs)
     (λ c. search needs)
-    light-sums-requires
     (λ c κs. search needs)
     scale-requires
     (λ c κs. search needs)

@@ -1,8 +1,8 @@
 -- The two arms are those of onChart.
 use Rattle.answers.specs.Worked.{onChart}
 use borrow.Author.Needs.{needs}
-use Rattle.answers.proofs.work.on_chart.Statement.{statement}
-use Rattle.answers.proofs.work.on_chart.Tie as tie
+use Rattle.answers.proofs.chart.on_chart.Statement.{statement}
+use Rattle.answers.proofs.chart.on_chart.Tie as tie
 
 returns : tie.Need-returns
 unfolding onChart

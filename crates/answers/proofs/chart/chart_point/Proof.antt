@@ -1,7 +1,7 @@
 -- Each coordinate is the float of its hundred-thousandths.
 use borrow.Author.Needs.{needs}
-use Rattle.answers.proofs.work.chart_point.Statement.{statement}
-use Rattle.answers.proofs.work.chart_point.Tie as tie
+use Rattle.answers.proofs.chart.chart_point.Statement.{statement}
+use Rattle.answers.proofs.chart.chart_point.Tie as tie
 
 returns : tie.Need-returns
 returns c = rw (c .before .coordinate-float .ensures, c .coordinate-float2 .ensures)

@@ -1,0 +1,19 @@
+-- The two arms are those of xySummed.
+use Rattle.answers.specs.Summed.{xySummed}
+use borrow.Author.Needs.{needs}
+use Rattle.answers.proofs.summed.xy_of.Statement.{statement}
+use Rattle.answers.proofs.summed.xy_of.Tie as tie
+
+xy-from-requires : tie.Need-xy-from-requires
+xy-from-requires c κs = c .before .before .before .pre _ (c .before .answer .given .1)
+
+returns : tie.Need-returns
+unfolding xySummed
+returns c = rw (c .before .before .answer .given .1) (c .xy-from .ensures)
+
+returns-2 : tie.Need-returns-2
+unfolding xySummed
+returns-2 c = rw (c .before .answer2 .given .1)
+
+pub xy-of-spec : {M : Type 1} → statement M
+xy-of-spec = tie.close (tie.spec (λ c. search needs) xy-from-requires (λ c. search needs) returns returns-2)

@@ -1,0 +1,33 @@
+-- What the three sums of a row that is checked first stand for, and what is answered from them.
+use mathlib.Core.Path.{_≡_}
+use Prim.Native.Nat.{ℕ, _+_, _^_, _<_}
+use Rattle.grid.specs.declared.Check.{Check}
+use Rattle.grid.specs.declared.Check.the-variants.{Fine}
+use Rattle.exact.specs.Value.{short}
+use Rattle.tables.specs.declared.Curve.{Curve}
+use Rattle.curves.specs.declared.weigh.Sums.{Sums}
+use Rattle.curves.specs.Observer.{SumsBy}
+use Rattle.answers.specs.declared.XyAnswer.{XyAnswer}
+use Rattle.answers.specs.declared.ChartAnswer.{ChartAnswer}
+use Rattle.answers.specs.declared.summed.SumsAnswer.{SumsAnswer}
+use Rattle.answers.specs.Worked.{xyFrom, onChart}
+
+-- the sums by the observer's curves of what passes its check; of anything else, its refusal
+unfoldable pub Summed : Check → ℕ → (Curve → ℕ) → SumsAnswer → Type 0
+Summed check o by (SumsAnswer.Given sums) = (check ≡ Fine) × SumsBy o by sums
+Summed check o by (SumsAnswer.Refused refusal) = check ≡ Check.Refused refusal
+
+-- the total of sums that are given is a number of 96 bits
+abbrev pub ShortTotal : SumsAnswer → Type 0
+ShortTotal answer =
+    (sums : Sums) → answer ≡ SumsAnswer.Given sums → short (sums .x) + short (sums .y) + short (sums .z) < 2 ^ 96
+
+-- x and y from the sums, or their refusal
+unfoldable pub xySummed : SumsAnswer → XyAnswer
+xySummed (SumsAnswer.Given sums) = xyFrom (short (sums .x)) (short (sums .y)) (short (sums .z))
+xySummed (SumsAnswer.Refused refusal) = XyAnswer.Refused refusal
+
+-- the chart's point of that x and y, or their refusal
+unfoldable pub chartSummed : SumsAnswer → ChartAnswer
+chartSummed (SumsAnswer.Given sums) = ChartAnswer.Given (onChart (xyFrom (short (sums .x)) (short (sums .y)) (short (sums .z))))
+chartSummed (SumsAnswer.Refused refusal) = ChartAnswer.Refused refusal

@@ -1,0 +1,36 @@
+// What is answered from the three sums of a row that is checked first: a light's or a panel's.
+use crate::ChartAnswer;
+use crate::XyAnswer;
+use crate::chart::on_chart;
+use crate::work::xy_from;
+use curves::weigh::Sums;
+use grid::Refusal;
+ghost use mathlib.Core.Path.{_≡_};
+ghost use Rattle.answers.specs.Summed.{ShortTotal, xySummed, chartSummed};
+
+pub enum SumsAnswer {
+    Given(Sums),
+    Refused(Refusal),
+}
+
+// x and y in hundred-thousandths.
+pub fn xy_of(answer: SumsAnswer) -> XyAnswer
+    requires { ⌜ ShortTotal answer ⌝ }
+    ensures { λ r. ⌜ r ≡ xySummed answer ⌝ }
+{
+    match answer {
+        SumsAnswer::Given(sums) => xy_from(sums),
+        SumsAnswer::Refused(refusal) => XyAnswer::Refused(refusal),
+    }
+}
+
+// The chart's point, or dark.
+pub fn chart_of(answer: SumsAnswer) -> ChartAnswer
+    requires { ⌜ ShortTotal answer ⌝ }
+    ensures { λ r. ⌜ r ≡ chartSummed answer ⌝ }
+{
+    match answer {
+        SumsAnswer::Given(sums) => ChartAnswer::Given(on_chart(xy_from(sums))),
+        SumsAnswer::Refused(refusal) => ChartAnswer::Refused(refusal),
+    }
+}
