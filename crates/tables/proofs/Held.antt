@@ -6,7 +6,7 @@ use native.Mathlib.Nat.{zero-add, mul-zero, le-trans}
 use native.Mathlib.Omega.{arith}
 use lib.Dec.{lit≤}
 use lib.ListN.{length, getD}
-use Rattle.mixing.specs.Sum.{total, sumOf, entryOf}
+use Rattle.mixing.specs.Sum.{sumOf}
 use Rattle.mixing.proofs.Sum.{total-ext, total-list}
 use Rattle.tables.specs.Tables.{xBar, yBar, zBar, xBar10, yBar10, zBar10, vPrime}
 use Rattle.tables.specs.Curves.{table, weightOf}

@@ -1,5 +1,4 @@
 -- A part over its whole is at most 1.
-use mathlib.Core.Path.{_≡_, _∙_, sym}
 use Prim.Native.Nat.{_*_, _≤_}
 use native.Mathlib.Nat.{mul-comm, mul-le-mul-left}
 use native.Mathlib.Omega.{arith}

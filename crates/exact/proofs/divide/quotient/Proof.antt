@@ -1,5 +1,5 @@
 -- The loop's invariant: the quotient so far times d, and what is left, make n. What is left falls with each turn.
-use Prim.Native.Nat.{ℕ, _*_, _+_, _^_, _<_, _≤_}
+use Prim.Native.Nat.{ℕ, _*_, _+_, _<_, _≤_}
 use mathlib.Core.Path.{_≡_, sym, _∙_}
 use borrow.Author.Tests.{leb-true, leb-false}
 use native.Mathlib.Nat.{add-zero, mul-comm, mul-le-mul-right, lt-of-mul-lt-mul-right}
