@@ -6,7 +6,7 @@
  *
  * Every call is answered, whatever it is given: `number` 0 means that the values are given, but for those that have a
  * number of their own beside them (`xy_number`); else it is the refusal's number (below), `place` is that of the first
- * faulty sample for 4 and 8, counted from 0, and everything else is 0.
+ * faulty sample for QR_SAMPLE and QR_REFLECTANCE, counted from 0, and everything else is 0.
  *
  * A call that succeeds writes exactly what it reports into the lent memory and nothing behind it; one that is refused
  * leaves it as it was. What is lent for writing may not overlap what is lent for reading in the same call. A row of
@@ -32,7 +32,7 @@ enum {
     QR_OBSERVER = 6,     /* neither 2 nor 10 */
     QR_ILLUMINANT = 7,   /* neither 1 (A) nor 2 (D65) */
     QR_REFLECTANCE = 8,  /* a reflectance above 10,000 */
-    QR_DARK = 9,         /* x and y of no light at all */
+    QR_DARK = 9,         /* x and y where X + Y + Z is 0 */
     QR_EDITION = 10,     /* the record's edition isn't 1 */
     QR_RESERVED = 11,    /* the record's reserved bit is 1 */
     QR_LENGTH = 12,      /* the record isn't as long as its header calls for */

@@ -1,10 +1,10 @@
 """Light readings from a sampled spectrum: the independent second implementation.
 
-It follows the paper's words as closely as they can be written down, in exact
+It follows the rules' words as closely as they can be written down, in exact
 whole numbers, so that another implementation can be held against it. Every
 public function answers a value (a whole number, a tuple, bytes) or `Refused`.
 
-Callers give what the paper's widths allow: settings are 32-bit unsigned,
+Callers give what the rules' widths allow: settings are 32-bit unsigned,
 samples 32-bit unsigned, reflectances 16-bit unsigned.
 """
 
@@ -15,7 +15,7 @@ from pathlib import Path
 WAVELENGTHS = range(360, 831)
 STEPS = (1, 2, 5, 10)
 
-# The refusal numbers, by the paper's names.
+# The refusal numbers, by the rules' names.
 (
     STEP,
     START,
@@ -114,7 +114,7 @@ def refuse_overrange(*readings):
     return None
 
 
-# The paper's sums and its rounding.
+# The rules' sums and its rounding.
 
 
 def nearest(numerator, denominator):

@@ -1,4 +1,4 @@
-"""Tests of the second implementation: the paper's bench figures, its refusals and their order.
+"""Tests of the second implementation: the rules' bench figures, its refusals and their order.
 
     python3 -m unittest discover -s second
 """
@@ -348,7 +348,7 @@ def packed(samples, edition=1, code=0, start=380, count=401, reserved=0, padding
 
 
 class Records(unittest.TestCase):
-    def test_the_paper_s_record(self):
+    def test_the_record_of_the_rules(self):
         record = light.write_record(380, 1, lone(FULL, 460), 1_006)
         self.assertEqual(len(record), 1_006)
         self.assertEqual(record[:3].hex(" "), "12 83 22")
@@ -433,7 +433,7 @@ class Records(unittest.TestCase):
 
 
 class Report(unittest.TestCase):
-    def test_the_paper_s_report(self):
+    def test_the_report_of_the_rules(self):
         expected = (
             b"photopic 40980\n"
             b"scotopic 963900\n"

@@ -81,7 +81,7 @@ NAMES: dict[int, str] = {
 
 
 class Refused(Exception):
-    """A call that was refused, with the refusal's number, name and place (0 but for 4 and 8)."""
+    """A call that was refused, with the refusal's number, name and place (0 but for SAMPLE and REFLECTANCE)."""
 
     def __init__(self, number: int, place: int) -> None:
         super().__init__(number, place)
@@ -90,7 +90,7 @@ class Refused(Exception):
         self.place = place
 
     def __str__(self) -> str:
-        where = f" at {self.place}" if self.number in (4, 8) else ""
+        where = f" at {self.place}" if self.name in ("SAMPLE", "REFLECTANCE") else ""
         return f"refused {self.number} ({self.name}){where}"
 
 
@@ -126,7 +126,7 @@ class ChartPoint(NamedTuple):
 
 
 class Figures(NamedTuple):
-    """The report's figures; `xy` is None where there is no light."""
+    """The report's figures; `xy` is None where X + Y + Z is 0."""
 
     photopic: int
     scotopic: int
@@ -202,13 +202,13 @@ def xyz(observer: SupportsIndex, start: SupportsIndex, step: SupportsIndex, samp
 
 
 def xy(observer: SupportsIndex, start: SupportsIndex, step: SupportsIndex, samples: Row) -> Xy:
-    """x and y in hundred-thousandths, for observer 2 or 10; `Refused` with number 9 where there is no light."""
+    """x and y in hundred-thousandths, for observer 2 or 10; `Refused` with number 9 where X + Y + Z is 0."""
     answer = _seen_light(_c.xy, observer, start, step, samples)
     return Xy(answer.x, answer.y)
 
 
 def chart(observer: SupportsIndex, start: SupportsIndex, step: SupportsIndex, samples: Row) -> ChartPoint:
-    """The chart's point, for observer 2 or 10; `Refused` with number 9 where there is no light."""
+    """The chart's point, for observer 2 or 10; `Refused` with number 9 where X + Y + Z is 0."""
     answer = _seen_light(_c.chart, observer, start, step, samples)
     return ChartPoint(answer.x, answer.y)
 
@@ -242,7 +242,7 @@ def _colour(answer):
 
 
 def figures(start: SupportsIndex, step: SupportsIndex, samples: Row) -> Figures:
-    """The report's figures at observer 2. Where there is no light they are given all the same, and `xy` is None."""
+    """The report's figures at observer 2. Where X + Y + Z is 0 they are given all the same, and `xy` is None."""
     answer = _light(_c.figures, start, step, samples)
     return Figures(answer.photopic, answer.scotopic, answer.X, answer.Y, answer.Z, _colour(answer))
 

@@ -1,4 +1,4 @@
-//! The straightforward implementation: the paper's words, one after another, with u128 sums.
+//! The straightforward implementation: the rules' words, one after another, with u128 sums.
 //!
 //! It is what the library is compared with, in its answers and in its speed. Its functions have
 //! the library's names and answers.

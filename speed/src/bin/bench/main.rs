@@ -74,6 +74,11 @@ fn best<const N: usize>(mut rivals: [&mut dyn FnMut(); N]) -> [f64; N] {
     best
 }
 
+/// A ratio to be met, where there is one.
+fn shown(target: Option<f64>) -> String {
+    target.map_or("-".into(), |target| format!("{target:.2}"))
+}
+
 fn print_speed() {
     let work = Work::new(380, 1, 401);
     println!("Start 380, step 1, n = 401; ns for one, best of {ROUNDS} rounds of {ITEMS}\n");
@@ -85,9 +90,7 @@ fn print_speed() {
             &mut || (task.round)(&STRAIGHT, &work),
             &mut || task.dot.iter().for_each(|dot| dot(&work)),
         ]);
-        let target = task
-            .target
-            .map_or("-".into(), |target| format!("{target:.2}"));
+        let target = shown(task.target);
         let dot = task.dot.map_or("-".into(), |_| format!("{dot:.0}"));
         let ratio = ours / straight;
         println!(
@@ -104,14 +107,15 @@ fn print_speed() {
 /// The figures at each step, over one range, beside the straightforward ones.
 fn print_steps() {
     println!("\nSeven figures of a spectrum from 380 to 780 nm, by step; ns for one\n");
-    println!("step    n      ours  straight  ours/straight");
+    println!("step    n      ours  straight  ours/straight  target");
     let round = FIGURES.round;
+    let target = shown(FIGURES.target);
     for step in STEPS {
         let count = (780 - 380) / step + 1;
         let work = Work::new(380, step, count as usize);
         let [ours, straight] = best([&mut || round(&OURS, &work), &mut || round(&STRAIGHT, &work)]);
         let ratio = ours / straight;
-        println!("{step:4}{count:5}{ours:10.0}{straight:10.0}{ratio:15.2}");
+        println!("{step:4}{count:5}{ours:10.0}{straight:10.0}{ratio:15.2}{target:>8}");
     }
 }
 

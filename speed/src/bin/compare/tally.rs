@@ -3,7 +3,7 @@
 use std::collections::BTreeMap;
 use std::fmt;
 
-/// 0 for a given value, and the paper's refusals.
+/// 0 for a given value, and the rules' refusals.
 const NUMBERS: usize = 16;
 
 #[derive(Default)]
