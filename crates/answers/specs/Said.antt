@@ -1,4 +1,4 @@
--- The paper's number, place and values for each case of each answer.
+-- The rules' number, place and values for each case of each answer.
 use mathlib.Core.List.{List, [], _∷_}
 use Prim.Native.Nat.{ℕ}
 use Rattle.grid.specs.Refusals.{DARK}

@@ -1,4 +1,5 @@
--- What the three sums of a row that is checked first stand for, and what is answered from them.
+-- What the three sums of a row that is checked first stand for, and what is answered from them: no promise to a caller rests on
+-- the reading of this.
 use mathlib.Core.Path.{_≡_}
 use Prim.Native.Nat.{ℕ, _+_, _^_, _<_}
 use Rattle.grid.specs.declared.Check.{Check}

@@ -2,6 +2,7 @@
 mod printed;
 
 use answers::XyAnswer;
+use libc::STDOUT_FILENO;
 use printed::X;
 use printed::X_10;
 use printed::Y;
@@ -9,26 +10,29 @@ use printed::Y_10;
 ghost use Prim.Native.Nat.{_<_};
 
 fn main() {
-    io::write_all(1, b"# The printed x, y columns of document 002\n\n");
     io::write_all(
-        1,
+        STDOUT_FILENO,
+        b"# The printed x, y columns of document 002\n\n",
+    );
+    io::write_all(
+        STDOUT_FILENO,
         b"Light of a single wavelength, 1,000,000 at it and 0 elsewhere, has the coordinates that document 002 prints, or nearly:\n",
     );
     io::write_all(
-        1,
+        STDOUT_FILENO,
         b"the printed columns are adjusted in places. Each place where a printed number is not ours is listed. The program\n",
     );
-    io::write_all(1, b"`columns` makes this page.\n");
-    io::write_all(1, b"\n## Gaps of more than one unit\n\n");
+    io::write_all(STDOUT_FILENO, b"`columns` makes this page.\n");
+    io::write_all(STDOUT_FILENO, b"\n## Gaps of more than one unit\n\n");
     both_observers(2, 100000);
-    io::write_all(1, b"\n## Gaps of one unit\n\n");
+    io::write_all(STDOUT_FILENO, b"\n## Gaps of one unit\n\n");
     both_observers(1, 1);
 }
 
 // The gaps in a range, of both observers.
 fn both_observers(low: u32, high: u32) {
     io::write_all(
-        1,
+        STDOUT_FILENO,
         b"| observer | nm | coordinate | printed | ours |\n|---|---|---|---|---|\n",
     );
     rows(2, &X, &Y, low, high);
@@ -53,7 +57,7 @@ fn row(observer: u32, k: usize, x: u32, y: u32, low: u32, high: u32)
             gap(observer, k, b"y", y, ours.y, low, high);
         }
         XyAnswer::Refused(_) => {
-            io::write_all(1, b"refused\n");
+            io::write_all(STDOUT_FILENO, b"refused\n");
         }
     }
 }
@@ -75,16 +79,16 @@ fn gap(observer: u32, k: usize, name: &[u8], printed: u32, ours: u32, low: u32, 
     }
     cell(observer as u64);
     cell(360 + k as u64);
-    io::write_all(1, b"| ");
-    io::write_all(1, name);
-    io::write_all(1, b" ");
+    io::write_all(STDOUT_FILENO, b"| ");
+    io::write_all(STDOUT_FILENO, name);
+    io::write_all(STDOUT_FILENO, b" ");
     cell(printed as u64);
     cell(ours as u64);
-    io::write_all(1, b"|\n");
+    io::write_all(STDOUT_FILENO, b"|\n");
 }
 
 fn cell(number: u64) {
-    io::write_all(1, b"| ");
-    io::print_decimal(1, number);
-    io::write_all(1, b" ");
+    io::write_all(STDOUT_FILENO, b"| ");
+    io::print_decimal(STDOUT_FILENO, number);
+    io::write_all(STDOUT_FILENO, b" ");
 }

@@ -11,8 +11,7 @@ use Rattle.mixing.specs.Sum.{weighted, entryOf}
 use Rattle.mixing.proofs.Sum.{total-ext, weighted-ext}
 use Rattle.tables.specs.declared.Curve.{Curve}
 use Rattle.tables.specs.declared.Illuminant.{Illuminant}
-use Rattle.tables.specs.Curves.{powers, weightOf, powerOf}
-use Rattle.curves.specs.Lit.{litBy}
+use Rattle.tables.specs.Curves.{powers, weightOf, powerOf, litBy}
 use Rattle.curves.specs.Work.{lineOf, SplitOf}
 
 -- the product at a place

@@ -14,7 +14,7 @@ shift B x y z = omega arith
 
 module _ (B : ℕ) (pos : 0 < B) where
   -- what passes a digit is carried to the one above it
-  pub carry : (x y : ℕ) → (x + y / B) * B + y % B ≡ x * B + y
+  carry : (x y : ℕ) → (x + y / B) * B + y % B ≡ x * B + y
   carry x y = omega (arith, div-add-mod' y B)
 
   -- a product and a sum, digit by digit

@@ -51,7 +51,7 @@ fn digit(a: u32, f: u32, b: u32, carried: u64) -> u64
 }
 
 // A number without what passes 96 bits.
-pub fn narrow(a: Long) -> Short
+fn narrow(a: Long) -> Short
     ensures { λ r. ⌜ short r ≡ long a % 2 ^ 96 ⌝ }
 {
     Short {

@@ -18,7 +18,7 @@ pub fn nearest(n: Short, f: u32, d: Short) -> u64
 
 // n / d, rounded down: 0 where d is 0, and 2^32 for all that is no less. Each turn takes away as much as the leading digits
 // show to be there; two turns are the rule.
-pub fn quotient(n: Long, d: Short) -> u64
+fn quotient(n: Long, d: Short) -> u64
     ensures { λ r. ⌜ r ≡ min (long n / short d) (2 ^ 32) ⌝ }
 {
     let divisor = whole(d);

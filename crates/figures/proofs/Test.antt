@@ -6,20 +6,19 @@ use Prim.Native.Nat.{ℕ}
 use lib.Dec.{T, eqb, eqb→eq}
 use lib.Ieee.{Float}
 use Rattle.grid.specs.Said.{Said}
-use Rattle.grid.specs.Check.{gridCheck, limitCheck}
+use Rattle.grid.specs.Check.{gridCheck, limitCheck, lightCheck}
 use Rattle.mixing.specs.Nearest.{nearest}
 use Rattle.mixing.specs.Sum.{total, weighted}
 use Rattle.mixing.specs.Mixture.{mix}
 use Rattle.tables.specs.Tables.{xBar, yBar, zBar, xBar10, yBar10, zBar10, vPrime, illuminantA, illuminantD65}
 use Rattle.tables.specs.Curves.{table, powers}
-use Rattle.grid.specs.Check.{lightCheck}
 use Rattle.spectrum.specs.Line.{lineAt, endRule, W, T as T′}
 use Rattle.answers.specs.Worked.{readingFrom, xyzFrom, xyFrom}
-use Rattle.panel.specs.Panel.{surfaceCheck, panelCheck, whiteSum, panelXyzOf, panelXyOf}
+use Rattle.panel.specs.Panel.{settingCheck, panelCheck, whiteSum, panelXyzOf, panelXyOf}
 use Rattle.readings.specs.Readings.{illuminanceOf, mesopicOf, xyzOf, xyOf}
 use Rattle.figures.specs.Asked.{answerOf}
 use Rattle.figures.specs.Rows.{Row, rows}
-use Rattle.figures.specs.Bench.{Holds}
+use Rattle.figures.specs.Promises.{Holds}
 
 both-left : (a b : Bool) → T (a && b) → T a
 both-left true b t = tt
@@ -91,5 +90,5 @@ holds (r ∷ rs) t = (
 
 -- the test, computed over the whole table
 pub passes : T (test rows)
-unfolding test isSame sameNumbers noFloats rows answerOf panelXyzOf panelXyOf panelCheck surfaceCheck whiteSum illuminanceOf mesopicOf xyzOf xyOf readingFrom xyzFrom xyFrom lightCheck gridCheck limitCheck W weighted total T′ lineAt endRule table powers xBar yBar zBar xBar10 yBar10 zBar10 vPrime illuminantA illuminantD65 nearest mix
+unfolding test isSame sameNumbers noFloats rows answerOf panelXyzOf panelXyOf panelCheck settingCheck whiteSum illuminanceOf mesopicOf xyzOf xyOf readingFrom xyzFrom xyFrom lightCheck gridCheck limitCheck W weighted total T′ lineAt endRule table powers xBar yBar zBar xBar10 yBar10 zBar10 vPrime illuminantA illuminantD65 nearest mix
 passes = tt

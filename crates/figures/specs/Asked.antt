@@ -1,4 +1,4 @@
--- What can be asked of the library, and what is then said.
+-- What can be asked of the library, and its answers.
 use mathlib.Core.List.{List}
 use Prim.Native.Nat.{ℕ}
 use Rattle.grid.specs.Said.{Said}
@@ -7,12 +7,14 @@ use Rattle.panel.specs.Panel.{panelXyzOf, panelXyOf}
 use Rattle.panel.specs.Figures.{panelFiguresOf, saidPanelFigures}
 use Rattle.readings.specs.Readings.{photopicOf, scotopicOf, photopic10Of, mesopicOf, xyzOf, xyOf}
 
+-- a reading or a panel's colour, by its settings, start, step and samples
 pub data Asked : Type 0 where
   photopic scotopic photopic10 : ℕ → ℕ → List ℕ → Asked
   mesopic : ℕ → ℕ → ℕ → List ℕ → Asked
   xyz xy : ℕ → ℕ → ℕ → List ℕ → Asked
   panelXyz panelXy panelFigures : ℕ → ℕ → ℕ → ℕ → List ℕ → Asked
 
+-- what is then said
 unfoldable pub answerOf : Asked → Said
 answerOf (photopic a s xs) = saidReading (photopicOf a s xs)
 answerOf (scotopic a s xs) = saidReading (scotopicOf a s xs)

@@ -1,5 +1,5 @@
 -- Definitions of the crate `figures`.
 pub mod Asked
 pub mod Rows
-pub mod Bench
 pub mod Slips
+pub mod Promises

@@ -1,18 +1,16 @@
--- Slips that this trade makes, each a version of its own, and a row of the table where it gives another number than ours.
+-- Slips that this trade makes, each a version of its own.
 use mathlib.Core.Path.{_≡_}
 use mathlib.Core.List.{List, [], _∷_}
 use Prim.Native.Nat.{ℕ, zero, suc, _+_, _*_, _-_, _/_, _^_}
 use lib.ListN.{length, getD}
 use Rattle.mixing.specs.Nearest.{nearest}
-use Rattle.mixing.specs.Sum.{total, weighted}
+use Rattle.mixing.specs.Sum.{total, weighted, entryOf}
 use Rattle.tables.specs.declared.Curve.the-variants.{YBar}
 use Rattle.tables.specs.Tables.{zBar}
-use Rattle.mixing.specs.Sum.{entryOf}
 use Rattle.tables.specs.Curves.{weightOf}
 use Rattle.spectrum.specs.Line.{T}
 use Rattle.grid.specs.Said.{value}
-use Rattle.figures.specs.Asked.{Asked, answerOf, photopic, xyz, xy}
-use Rattle.figures.specs.Rows.{lone, at460}
+use Rattle.figures.specs.Asked.{Asked, answerOf}
 
 -- x from the rounded X, Y, Z
 abbrev pub xFromRounded : ℕ → ℕ → ℕ → ℕ
@@ -46,12 +44,3 @@ pub record Apart (version slip : ℕ) (asked : Asked) (i ours : ℕ) : Type 0 wh
   pub gives : version ≡ slip
   pub is : value (answerOf asked) i ≡ ours
   pub not-ours : version ≡ value (answerOf asked) i → ⊥
-
-pub record Slips : Type 0 where
-  pub x-from-rounded :
-      let said = answerOf (xyz 2 380 1 (at460 1)) in
-      Apart (xFromRounded (value said 0) (value said 1) (value said 2)) 0 (xy 2 380 1 (at460 1)) 0 14396
-  pub each-rounded : Apart (eachRounded 380 5 (lone 81 16 1000000)) 205364 (photopic 380 5 (lone 81 16 1000000)) 0 205365
-  pub at-samples : Apart (atSamples 380 5 (lone 81 16 1000000)) 204900 (photopic 380 5 (lone 81 16 1000000)) 0 205365
-  pub divided-early : Apart (dividedEarly 380 5 (lone 81 35 1)) 1 (photopic 380 5 (lone 81 35 1)) 0 3
-  pub filled-down : Apart (zFilled 380 1 (lone 401 320 1000000)) 1 (xyz 2 380 1 (lone 401 320 1000000)) 2 0

@@ -1,10 +1,9 @@
 // What is promised of the bench figures.
-ghost use Rattle.figures.specs.Bench.{BenchHolds};
-ghost use Rattle.figures.specs.Slips.{Slips};
+ghost use Rattle.figures.specs.Promises.{Bench, Slips};
 
 // Each row of the table is given as it says.
 pub fn promise_bench()
-    ensures { λ _. ⌜ BenchHolds ⌝ }
+    ensures { λ _. ⌜ Bench ⌝ }
 {}
 
 // Each slip that this trade makes gives another number at a row of the table.

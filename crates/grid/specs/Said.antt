@@ -1,4 +1,4 @@
--- The paper's number, place and values of an answer: what any answer says, whatever type it has.
+-- The rules' number, place and values of an answer: what any answer says, whatever type it has.
 use mathlib.Core.List.{List, []}
 use Prim.Native.Nat.{ℕ}
 use lib.ListN.{getD}

@@ -11,7 +11,7 @@ ghost use Prim.Native.Nat.{_≤_};
 ghost use lib.ListN.{length};
 ghost use Rattle.grid.specs.Check.{gridCheck, isStep, isStart, isCount, isObserver, refusal, limitCheck, samplesCheck, lightCheck, Within};
 
-// A refusal's number, and the place of the first faulty sample for 4 and 8 (else 0).
+// A refusal's number, and the place of the first faulty sample for SAMPLE and REFLECTANCE (else 0).
 pub struct Refusal {
     pub number: u32,
     pub place: u32,

@@ -1,4 +1,4 @@
-// The numbers of refusals, by the paper's names.
+// The numbers of refusals, by the rules' names.
 
 pub const STEP: u32 = 1;
 

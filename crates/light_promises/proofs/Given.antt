@@ -20,10 +20,10 @@ use Rattle.grid.specs.Said.{value}
 use Rattle.curves.specs.Observer.{curvesOf}
 use Rattle.answers.proofs.Values.{xyz-given}
 use Rattle.answers.proofs.Mixed.{xyz-order}
-use Rattle.panel.specs.Panel.{illuminantOf, panelCheck, whiteSum, xSum, ySum, zSum, panelXyzOf}
-use Rattle.curves.specs.Lit.{litBy}
-use Rattle.light_promises.specs.Panels.{xyz}
-use Rattle.panel.proofs.Surface.{surface-fine, on-grid}
+use Rattle.panel.specs.Panel.{illuminantOf, panelCheck, whiteSum, panelXSum, panelYSum, panelZSum, panelXyzOf}
+use Rattle.tables.specs.Curves.{litBy}
+use Rattle.light_promises.specs.Panels.{saidPanelXyz}
+use Rattle.panel.proofs.Accepted.{on-grid}
 use Rattle.panel.proofs.Sized.{white-some, panel-bound}
 
 module _ (o i a s : ℕ) (rs : List ℕ) (fine : panelCheck o i a s rs ≡ Fine) where
@@ -31,13 +31,13 @@ module _ (o i a s : ℕ) (rs : List ℕ) (fine : panelCheck o i a s rs ≡ Fine)
   divisor-some =
       let w = white-some o i in
       let some : 0 < whiteSum o i = omega arith in
-      mul-pos (on-grid a s rs (surface-fine o i a s rs fine) .step-low) some
+      mul-pos (on-grid o i a s rs fine .step-low) some
 
   -- no curve's sum under an illuminant is five times the white sum
   fits : (c : Curve) → nearest (10 * W (litBy (illuminantOf i) c) a s rs) (s * whiteSum o i) ≤ 4294967295
   fits c =
       let v = litBy (illuminantOf i) c in
-      let x : W v a s rs ≤ s * 10000 * total 471 v = panel-bound a s rs (surface-fine o i a s rs fine) v in
+      let x : W v a s rs ≤ s * 10000 * total 471 v = panel-bound o i a s rs fine v in
       let y : s * 10000 * total 471 v ≤ s * 10000 * 52320400000000000000000 = mul-le-mul-left (s * 10000) (lit-total (illuminantOf i) c) in
       let z : s * 10500000000000000000000 ≤ s * whiteSum o i = mul-le-mul-left s (white-some o i) in
       let n = nearest-bound 500000 (10 * W v a s rs) (s * whiteSum o i) (omega arith) in
@@ -47,17 +47,17 @@ module _ (o i a s : ℕ) (rs : List ℕ) (fine : panelCheck o i a s rs ≡ Fine)
       panelXyzOf o i a s rs
       ≡ XyzAnswer.Value
       (record {
-        x = nearest (10 * xSum o i a s rs) (s * whiteSum o i);
-        y = nearest (10 * ySum o i a s rs) (s * whiteSum o i);
-        z = nearest (10 * zSum o i a s rs) (s * whiteSum o i);
+        x = nearest (10 * panelXSum o i a s rs) (s * whiteSum o i);
+        y = nearest (10 * panelYSum o i a s rs) (s * whiteSum o i);
+        z = nearest (10 * panelZSum o i a s rs) (s * whiteSum o i);
       })
   unfolding panelXyzOf
   values =
       rw fine
-      (xyz-given (10 * xSum o i a s rs) (10 * ySum o i a s rs) (10 * zSum o i a s rs) (s * whiteSum o i)
+      (xyz-given (10 * panelXSum o i a s rs) (10 * panelYSum o i a s rs) (10 * panelZSum o i a s rs) (s * whiteSum o i)
       (fits (curvesOf o .x)) (fits (curvesOf o .y)) (fits (curvesOf o .z)))
 
-  pub given : xyz o i a s rs .number ≡ 0
+  pub given : saidPanelXyz o i a s rs .number ≡ 0
   given = rw values
 
 module _ (o i a s n : ℕ) where
@@ -67,12 +67,12 @@ module _ (o i a s n : ℕ) where
 
 pub order :
     (o i a s : ℕ) (rs qs : List ℕ) → panelCheck o i a s rs ≡ Fine → panelCheck o i a s qs ≡ Fine → length rs ≡ length qs →
-    Below rs qs → (k : ℕ) → value (xyz o i a s rs) k ≤ value (xyz o i a s qs) k
+    Below rs qs → (k : ℕ) → value (saidPanelXyz o i a s rs) k ≤ value (saidPanelXyz o i a s qs) k
 unfolding panelXyzOf
 order o i a s rs qs p q l b k =
     let n = length rs in
     rw (p, q)
-    (xyz-order n (s * whiteSum o i) (divisor-some o i a s rs p) rs qs refl (sym l) (λ zs. 10 * xSum o i a s zs)
-    (λ zs. 10 * ySum o i a s zs) (λ zs. 10 * zSum o i a s zs) (ten-linear o i a s n (curvesOf o .x))
+    (xyz-order n (s * whiteSum o i) (divisor-some o i a s rs p) rs qs refl (sym l) (λ zs. 10 * panelXSum o i a s zs)
+    (λ zs. 10 * panelYSum o i a s zs) (λ zs. 10 * panelZSum o i a s zs) (ten-linear o i a s n (curvesOf o .x))
     (ten-linear o i a s n (curvesOf o .y)) (ten-linear o i a s n (curvesOf o .z)) b
     (rw p at (given o i a s rs p)) (rw q at (given o i a s qs q)) k)

@@ -19,7 +19,7 @@ use Rattle.curves.specs.Observer.{curvesOf}
 use Rattle.readings.specs.Readings.{photopicOf, scotopicOf, photopic10Of, mesopicOf, xyzOf, xyOf, chartOf, figuresOf}
 use Rattle.readings.specs.Figures.{saidFigures}
 
--- an answer by start, step and samples, as the paper's number, place and values
+-- an answer by start, step and samples, as the rules' number, place and values
 abbrev pub Answer : Type 0
 Answer = ℕ → ℕ → List ℕ → Said
 
@@ -56,6 +56,7 @@ OneDark answer =
     (a s : ℕ) (xs ys : List ℕ) → Mixable a s xs ys → answer a s xs .number ≡ DARK → answer a s ys .number ≡ 0 →
     (answer a s (mix xs ys) ≡ answer a s ys) × (answer a s (mix ys xs) ≡ answer a s ys)
 
+-- mixing behaves, for each illuminance, for X, Y, Z and for x, y
 pub record Mixing : Type 0 where
   pub accepted : (a s : ℕ) (xs ys : List ℕ) → Mixable a s xs ys → lightCheck a s (mix xs ys) ≡ Fine
   pub photopic : OneUnit (λ a s xs. saidReading (photopicOf a s xs))
@@ -66,6 +67,7 @@ pub record Mixing : Type 0 where
   pub between : (o : ℕ) → BothLit (λ a s xs. saidXy (xyOf o a s xs))
   pub one-dark : (o : ℕ) → OneDark (λ a s xs. saidXy (xyOf o a s xs))
 
+-- more light at no place is no more in any illuminance or in X, Y, Z
 pub record Order : Type 0 where
   pub photopic : InOrder (λ a s xs. saidReading (photopicOf a s xs))
   pub scotopic : InOrder (λ a s xs. saidReading (scotopicOf a s xs))
@@ -111,7 +113,7 @@ pub record Darkness : Type 0 where
   pub chart :
       (o a s : ℕ) (xs : List ℕ) → isObserver o ≡ true → lightCheck a s xs ≡ Fine → Colourless o a s xs →
       saidChart (chartOf o a s xs) ≡ dark
-  -- the figures in one call: five zeros, and 9 for x and y
+  -- the figures in one call: five zeros, and DARK for x and y
   pub figures :
       (a s : ℕ) (xs : List ℕ) → lightCheck a s xs ≡ Fine → Colourless 2 a s xs → Unlit VPrime a s xs →
       saidFigures (figuresOf a s xs) ≡ given (0 ∷ 0 ∷ 0 ∷ 0 ∷ 0 ∷ DARK ∷ 0 ∷ 0 ∷ []) []

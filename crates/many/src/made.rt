@@ -1,6 +1,7 @@
 // An input from its draws.
 ghost use mathlib.Core.Path.{_≡_};
 ghost use Prim.Native.Nat.{_*_, _%_, _<_, _≤_};
+ghost use lib.ListN.{length};
 ghost use Rattle.many.specs.Generator.{stepFrom, startFrom, observerFrom, illuminantFrom};
 
 pub fn draw(s: u64) -> u64
@@ -84,8 +85,8 @@ pub fn setting_from(d: u64) -> u32
 
 // Fills the first samples by the mode, and gives the state after the draws.
 pub fn fill(mode: u64, state: u64, count: usize, samples: &mut [u32; 532]) -> u64
-    requires { ⌜ (state < 2147483647) × (count ≤ 532) ⌝ }
-    ensures { λ r. ⌜ r < 2147483647 ⌝ }
+    requires { ⌜ (state < 2147483647) × (count ≤ 532) × (length (now samples) ≡ 532) ⌝ }
+    ensures { λ r. ⌜ (r < 2147483647) × (length (now (samples .exit)) ≡ 532) ⌝ }
 {
     let mut s = state;
     for k in 0..count {
@@ -121,8 +122,8 @@ fn sample_from(mode: u64, d: u64, k: u64) -> u32
 
 // Puts the one sample of modes 1 and 5, and gives the state after the draws.
 pub fn put_one(mode: u64, state: u64, count: usize, samples: &mut [u32; 532]) -> u64
-    requires { ⌜ (state < 2147483647) × (count ≤ 532) ⌝ }
-    ensures { λ r. ⌜ r < 2147483647 ⌝ }
+    requires { ⌜ (state < 2147483647) × (count ≤ 532) × (length (now samples) ≡ 532) ⌝ }
+    ensures { λ r. ⌜ (r < 2147483647) × (length (now (samples .exit)) ≡ 532) ⌝ }
 {
     if count == 0 {
         return state;
@@ -155,7 +156,10 @@ fn one_from(mode: u64, d: u64) -> u32 {
     }
 }
 
-pub fn reflect(mode: u64, samples: &[u32; 532], reflectances: &mut [u16; 532]) {
+pub fn reflect(mode: u64, samples: &[u32; 532], reflectances: &mut [u16; 532])
+    requires { ⌜ length (now reflectances) ≡ 532 ⌝ }
+    ensures { λ _. ⌜ length (now (reflectances .exit)) ≡ 532 ⌝ }
+{
     for k in 0..532 {
         reflectances[k] = reflectance(mode, samples[k]);
     }

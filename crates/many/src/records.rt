@@ -5,6 +5,7 @@ use crate::shown::also;
 use crate::shown::number;
 use crate::shown::refused;
 use crate::shown::space;
+use libc::STDOUT_FILENO;
 use record::RecordRead;
 use record::RecordWritten;
 ghost use mathlib.Core.Path.{_≡_};
@@ -34,7 +35,7 @@ fn cramped(start: u32, step: u32, samples: &[u32], room: usize)
     let answer = record::write_record(start, step, samples, &mut bytes[..room]);
     match answer {
         RecordWritten::Written(length) => {
-            io::print_decimal(1, length as u64);
+            io::print_decimal(STDOUT_FILENO, length as u64);
         }
         RecordWritten::Refused(refusal) => refused(refusal),
     }
@@ -51,9 +52,9 @@ fn written(length: usize, bytes: &mut [u8], d: u64)
     if length == 0 {
         return;
     }
-    io::print_decimal(1, length as u64);
-    io::write_all(1, b",");
-    io::print_decimal(1, sum_of_bytes(bytes, length));
+    io::print_decimal(STDOUT_FILENO, length as u64);
+    io::write_all(STDOUT_FILENO, b",");
+    io::print_decimal(STDOUT_FILENO, sum_of_bytes(bytes, length));
     read(bytes, length, 531);
     let e = draw(d);
     let place = place_from(d as usize, length);
@@ -119,10 +120,10 @@ fn spectrum(start: u32, step: u32, count: usize, row: &[u32; 531]) {
     }
     number(start);
     also(step);
-    io::write_all(1, b",");
-    io::print_decimal(1, count as u64);
-    io::write_all(1, b",");
-    io::print_decimal(1, sum_of_samples(row, count));
+    io::write_all(STDOUT_FILENO, b",");
+    io::print_decimal(STDOUT_FILENO, count as u64);
+    io::write_all(STDOUT_FILENO, b",");
+    io::print_decimal(STDOUT_FILENO, sum_of_samples(row, count));
 }
 
 fn sum_of_bytes(bytes: &[u8], count: usize) -> u64

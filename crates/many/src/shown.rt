@@ -5,27 +5,28 @@ use answers::Reading;
 use answers::XyAnswer;
 use answers::XyzAnswer;
 use grid::Refusal;
+use libc::STDOUT_FILENO;
 use panel::figures::PanelFiguresAnswer;
 use readings::figures::FiguresAnswer;
 
 pub fn space() {
-    io::write_all(1, b" ");
+    io::write_all(STDOUT_FILENO, b" ");
 }
 
 pub fn number(n: u32) {
-    io::print_decimal(1, n as u64);
+    io::print_decimal(STDOUT_FILENO, n as u64);
 }
 
 pub fn also(n: u32) {
-    io::write_all(1, b",");
+    io::write_all(STDOUT_FILENO, b",");
     number(n);
 }
 
 pub fn refused(refusal: Refusal) {
-    io::write_all(1, b"!");
+    io::write_all(STDOUT_FILENO, b"!");
     number(refusal.number);
-    io::write_all(1, b"@");
-    io::print_decimal(1, refusal.place as u64);
+    io::write_all(STDOUT_FILENO, b"@");
+    io::print_decimal(STDOUT_FILENO, refusal.place as u64);
 }
 
 pub fn reading(answer: Reading) {
@@ -71,11 +72,11 @@ fn on_chart(place: OnChart) {
     match place {
         OnChart::Point(point) => {
             bits(point.x);
-            io::write_all(1, b",");
+            io::write_all(STDOUT_FILENO, b",");
             bits(point.y);
         }
         OnChart::Dark => {
-            io::write_all(1, b"dark");
+            io::write_all(STDOUT_FILENO, b"dark");
         }
     }
 }
@@ -84,7 +85,7 @@ fn on_chart(place: OnChart) {
 fn bits(x: f64) {
     if x <= 1.0 {
         let pattern: u64 = f64::to_bits(x);
-        io::print_decimal(1, pattern);
+        io::print_decimal(STDOUT_FILENO, pattern);
     }
 }
 
@@ -125,7 +126,7 @@ fn also_xy(answer: XyAnswer) {
             also(v.y);
         }
         XyAnswer::Refused(_) => {
-            io::write_all(1, b",-,-");
+            io::write_all(STDOUT_FILENO, b",-,-");
         }
     }
 }

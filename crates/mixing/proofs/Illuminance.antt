@@ -24,12 +24,12 @@ module _ (n d : ℕ) (F : List ℕ → ℕ) (lin : Linear n F) (pos : 0 < d) whe
   reading-low xs = nearest-lt (F xs) d pos (reading xs + 1) .0 (omega arith)
 
   -- and so for the sum of readings, with a divisor a row
-  pub sum-high : (xss : List (List ℕ)) → Rows n xss → sumOf (map reading xss) * (2 * d) ≤ 2 * F (mixture n xss) + length xss * d
+  sum-high : (xss : List (List ℕ)) → Rows n xss → sumOf (map reading xss) * (2 * d) ≤ 2 * F (mixture n xss) + length xss * d
   unfolding sumOf mixture
   sum-high [] r = omega arith
   sum-high (xs ∷ xss) r = omega (arith, reading-high xs, sum-high xss (r .1), linear-mixture n F lin xs xss r)
 
-  pub sum-low :
+  sum-low :
       (xss : List (List ℕ)) → Rows n xss →
       2 * F (mixture n xss) + length xss ≤ sumOf (map reading xss) * (2 * d) + length xss * d
   unfolding sumOf mixture

@@ -32,7 +32,7 @@ halves-up n d pos =
     div-eq-of-eq-mul-left double (omega arith)
 
 -- n / 0 counts as 0
-pub nearest-zero : (n : ℕ) → nearest n 0 ≡ 0
+nearest-zero : (n : ℕ) → nearest n 0 ≡ 0
 unfolding nearest
 nearest-zero n = div-zero (2 * n + 0)
 

@@ -14,7 +14,7 @@ unfolding total
 total-ext zero f g e = refl
 total-ext (suc n) f g e = ap₂ (λ (x y : ℕ). x + y) (total-ext n f g (λ k h. e k (omega arith))) (e n (le-refl (suc n)))
 
-pub total-le : (n : ℕ) (f g : ℕ → ℕ) → ((k : ℕ) → k < n → f k ≤ g k) → total n f ≤ total n g
+total-le : (n : ℕ) (f g : ℕ → ℕ) → ((k : ℕ) → k < n → f k ≤ g k) → total n f ≤ total n g
 unfolding total
 total-le zero f g e = le-refl 0
 total-le (suc n) f g e = add-le-add (total-le n f g (λ k h. e k (omega arith))) (e n (le-refl (suc n)))

@@ -20,7 +20,7 @@ use Rattle.answers.specs.declared.XyAnswer.{XyAnswer}
 use Rattle.answers.specs.Worked.{isFitting, readingFrom, xyzFrom, xyFrom}
 use Rattle.readings.specs.declared.figures.ReportFigures.{ReportFigures}
 use Rattle.readings.specs.declared.figures.FiguresAnswer.{FiguresAnswer}
-use Rattle.readings.specs.Readings.{illuminanceOf, photopicOf, scotopicOf, colourCheck, xyzOf, xyOf, together, figuresOf}
+use Rattle.readings.specs.Readings.{illuminanceOf, photopicOf, scotopicOf, colourCheck, xyzOf, xyOf, figuresTogether, figuresOf}
 use Rattle.record.specs.Format.{startOf, stepOf, countOf, samplesOf}
 use Rattle.record.specs.Answer.{recordCheck}
 use Rattle.page.specs.Recorded.{recordedFigures}
@@ -89,7 +89,7 @@ xy-small Fine x y z = go (eqb (x + y + z) 0)
     )
 
 together-small :
-    (p q : Reading) (v : XyzAnswer) (xy : XyAnswer) → SmallReading p → SmallReading q → SmallXyz v → SmallXy xy → SmallFigures (together p q v xy)
+    (p q : Reading) (v : XyzAnswer) (xy : XyAnswer) → SmallReading p → SmallReading q → SmallXyz v → SmallXy xy → SmallFigures (figuresTogether p q v xy)
 together-small (Reading.Value p) (Reading.Value q) (XyzAnswer.Value v) xy a b c d = record { photopic = a; scotopic = b; xyz = c; xy = d }
 together-small (Reading.Refused r) q v xy a b c d = tt
 together-small (Reading.Value p) (Reading.Refused r) v xy a b c d = tt

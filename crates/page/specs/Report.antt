@@ -1,4 +1,4 @@
--- The report's text, line by line as the paper prints it.
+-- The report's text, line by line as the rules print it.
 use mathlib.Core.Bool.{cond}
 use mathlib.Core.List.{List, [], _∷_, _++_}
 use Prim.Native.Char.{code}
@@ -56,7 +56,7 @@ readingLines f =
 unfoldable pub figureLines : ReportFigures → List ℕ
 figureLines f = readingLines f ++ colourLines (f .xy)
 
--- a refusal's number, with its place for 4 only
+-- a refusal's number, with its place for SAMPLE only
 unfoldable pub numbered : Refusal → List ℕ
 numbered r = decimal (r .number) ++ cond (eqb (r .number) SAMPLE) (ascii " at " ++ decimal (r .place)) []
 

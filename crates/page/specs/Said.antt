@@ -1,4 +1,4 @@
--- The paper's number, place and values of writing a report.
+-- The rules' number, place and values of writing a report.
 use Rattle.grid.specs.Said.{Said, refusedWith}
 use Rattle.record.specs.Said.{wrote}
 use Rattle.page.specs.declared.ReportWritten.{ReportWritten}

@@ -1,15 +1,15 @@
 // The report page: what a record says of its light, as text.
+mod lines;
+mod put;
+
+use grid::Refusal;
 use grid::refusals::ROOM;
+use readings::figures::FiguresAnswer;
+use record::RecordRead;
 ghost use mathlib.Core.Path.{_≡_};
 ghost use lib.ListN.{length};
 ghost use Rattle.page.specs.Recorded.{recordedFigures};
 ghost use Rattle.page.specs.Answer.{reportAnswer, textAfter};
-use grid::Refusal;
-use readings::figures::FiguresAnswer;
-use record::RecordRead;
-
-mod lines;
-mod put;
 
 // What writing a report gives: the number of bytes written.
 pub enum ReportWritten {

@@ -1,16 +1,16 @@
 // The report's lines.
-use grid::refusals::SAMPLE;
-ghost use Prim.Native.Nat.{_+_, _≤_};
-ghost use lib.ListN.{length};
-ghost use Rattle.page.specs.Report.{line, colourLines, figureLines, numbered, textOf};
-ghost use Rattle.page.specs.Put.{Put, shownText};
 use crate::put::put;
 use crate::put::put_coordinate;
 use crate::put::put_number;
 use answers::XyAnswer;
 use grid::Refusal;
+use grid::refusals::SAMPLE;
 use readings::figures::FiguresAnswer;
 use readings::figures::ReportFigures;
+ghost use Prim.Native.Nat.{_+_, _≤_};
+ghost use lib.ListN.{length};
+ghost use Rattle.page.specs.Report.{line, colourLines, figureLines, numbered, textOf};
+ghost use Rattle.page.specs.Put.{Put, shownText};
 
 // What a line shows behind its word.
 pub enum Shown {

@@ -6,7 +6,7 @@ use Rattle.mixing.specs.Sum.{total}
 use Rattle.tables.specs.declared.Curve.the-variants.{YBar, YBar10}
 use Rattle.tables.specs.declared.Illuminant.the-variants.{A, D65}
 use Rattle.tables.proofs.White.{a-white, a-white-10, d65-white, d65-white-10}
-use Rattle.curves.specs.Lit.{litBy}
+use Rattle.tables.specs.Curves.{litBy}
 
 -- none is below 1.05 · 10^22
 pub white-low : (ten d65 : Bool) → 10500000000000000000000 ≤ total 471 (litBy (cond d65 D65 A) (cond ten YBar10 YBar))

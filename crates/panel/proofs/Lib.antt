@@ -1,6 +1,6 @@
 -- Laws of panels.
 pub mod Computed
-pub mod Surface
+pub mod Accepted
 pub mod Sized
 pub mod Weighed
 pub mod Worked

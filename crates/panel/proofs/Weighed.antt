@@ -4,10 +4,11 @@ use mathlib.Core.List.{List}
 use Prim.Native.Nat.{ℕ}
 use lib.ListN.{length}
 use Rattle.curves.proofs.Sums.{sums-equal}
-use Rattle.curves.specs.Lit.{litBy, LitSums}
+use Rattle.tables.specs.Curves.{litBy}
+use Rattle.curves.specs.Lit.{LitSums}
 use Rattle.curves.specs.declared.weigh.Sums.{Sums}
 use Rattle.grid.proofs.Accepted.{OnGrid}
-use Rattle.spectrum.specs.Line.{rowOf}
+use Rattle.spectrum.specs.Lay.{rowOf}
 use Rattle.spectrum.specs.Begin.{Begins}
 use Rattle.spectrum.specs.declared.line.Begin.{Begin}
 use Rattle.spectrum.proofs.Light.{row-weighed}

@@ -10,9 +10,9 @@ use Rattle.answers.specs.Worked.{xyzFrom, xyFrom}
 use Rattle.answers.specs.declared.summed.SumsAnswer.{SumsAnswer}
 use Rattle.answers.specs.Summed.{ShortTotal}
 use Rattle.answers.proofs.FromSums.{given-sums}
-use Rattle.panel.specs.Panel.{panelCheck, whiteSum, xSum, ySum, zSum}
+use Rattle.panel.specs.Panel.{panelCheck, whiteSum, panelXSum, panelYSum, panelZSum}
 use Rattle.panel.specs.Sums.{PanelSums, PanelSummed}
-use Rattle.panel.proofs.Surface.{surface-fine, on-grid}
+use Rattle.panel.proofs.Accepted.{on-grid}
 use Rattle.panel.proofs.Sized.{colour-small}
 
 -- what is worked from the sums of an accepted panel
@@ -23,28 +23,27 @@ pub record Worked (o i a s : ℕ) (rs : List ℕ) (sums : Sums) : Type 0 where
   pub xyz :
       (d : ℕ) → d ≡ s * whiteSum o i →
       xyzFrom (short (sums .x) * 10) (short (sums .y) * 10) (short (sums .z) * 10) d
-      ≡ xyzFrom (10 * xSum o i a s rs) (10 * ySum o i a s rs) (10 * zSum o i a s rs) (s * whiteSum o i)
-  pub xy : xyFrom (short (sums .x)) (short (sums .y)) (short (sums .z)) ≡ xyFrom (xSum o i a s rs) (ySum o i a s rs) (zSum o i a s rs)
+      ≡ xyzFrom (10 * panelXSum o i a s rs) (10 * panelYSum o i a s rs) (10 * panelZSum o i a s rs) (s * whiteSum o i)
+  pub xy : xyFrom (short (sums .x)) (short (sums .y)) (short (sums .z)) ≡ xyFrom (panelXSum o i a s rs) (panelYSum o i a s rs) (panelZSum o i a s rs)
 
 module _ (o i a s : ℕ) (rs : List ℕ) (answer : SumsAnswer) (is : PanelSummed o i a s rs answer) where
   pub worked : (sums : Sums) → answer ≡ SumsAnswer.Given sums → Worked o i a s rs sums
   worked sums e =
       let given = given-sums (panelCheck o i a s rs) o _ answer is sums e in
       let are : PanelSums o i a s rs sums = given .1 in
-      let surface = surface-fine o i a s rs (given .0) in
       record {
         fine = given .0;
-        step-small = on-grid a s rs surface .step-high;
-        total-small = rw (are .x, are .y, are .z) (colour-small a s rs surface o i);
+        step-small = on-grid o i a s rs (given .0) .step-high;
+        total-small = rw (are .x, are .y, are .z) (colour-small o i a s rs (given .0));
         xyz = λ d e.
             rw (
               are .x,
               are .y,
               are .z,
               e,
-              mul-comm (xSum o i a s rs) 10,
-              mul-comm (ySum o i a s rs) 10,
-              mul-comm (zSum o i a s rs) 10,
+              mul-comm (panelXSum o i a s rs) 10,
+              mul-comm (panelYSum o i a s rs) 10,
+              mul-comm (panelZSum o i a s rs) 10,
             );
         xy = rw (are .x, are .y, are .z);
       }

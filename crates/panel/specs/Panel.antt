@@ -1,4 +1,4 @@
--- Panel colour, as the paper has it.
+-- Panel colour, as the rules have it.
 use mathlib.Core.Bool.{Bool, cond, _||_}
 use mathlib.Core.List.{List}
 use Prim.Native.Nat.{ℕ, _*_}
@@ -10,7 +10,7 @@ use Rattle.grid.specs.Check.{unless, require, thenCheck, isObserver, gridCheck,
 use Rattle.mixing.specs.Sum.{total}
 use Rattle.tables.specs.declared.Illuminant.{Illuminant}
 use Rattle.tables.specs.declared.Illuminant.the-variants.{A, D65}
-use Rattle.curves.specs.Lit.{litBy}
+use Rattle.tables.specs.Curves.{litBy}
 use Rattle.spectrum.specs.Line.{W}
 use Rattle.answers.specs.declared.XyzAnswer.{XyzAnswer}
 use Rattle.answers.specs.declared.XyAnswer.{XyAnswer}
@@ -22,31 +22,28 @@ use Rattle.curves.specs.Observer.{curvesOf}
 abbrev pub isIlluminant : ℕ → Bool
 isIlluminant i = eqb i 1 || eqb i 2
 
+-- 1 is A, 2 is D65
 abbrev pub illuminantOf : ℕ → Illuminant
 illuminantOf i = cond (eqb i 2) D65 A
 
--- a grid under the same rules: STEP, START, COUNT; then REFLECTANCE
-unfoldable pub surfaceCheck : ℕ → ℕ → List ℕ → Check
-surfaceCheck a s rs = thenCheck (gridCheck a s (length rs)) (reflectancesCheck rs)
-
--- OBSERVER, ILLUMINANT, and then the grid's own refusals
+-- OBSERVER, ILLUMINANT, and then a grid under the same rules: STEP, START, COUNT
 unfoldable pub settingCheck : ℕ → ℕ → ℕ → ℕ → ℕ → Check
 settingCheck o i a s n = require (isObserver o) OBSERVER (require (isIlluminant i) ILLUMINANT (gridCheck a s n))
 
--- OBSERVER, ILLUMINANT, and then the reflectances' own refusals
+-- then REFLECTANCE
 unfoldable pub panelCheck : ℕ → ℕ → ℕ → ℕ → List ℕ → Check
-panelCheck o i a s rs = require (isObserver o) OBSERVER (require (isIlluminant i) ILLUMINANT (surfaceCheck a s rs))
+panelCheck o i a s rs = thenCheck (settingCheck o i a s (length rs)) (reflectancesCheck rs)
 
 -- multiply the chosen illuminant, T and x̄ at each nanometre from 360 to 830, and add up: the panel's X sum
-abbrev pub xSum : ℕ → ℕ → ℕ → ℕ → List ℕ → ℕ
-xSum o i a s rs = W (litBy (illuminantOf i) (curvesOf o .x)) a s rs
+abbrev pub panelXSum : ℕ → ℕ → ℕ → ℕ → List ℕ → ℕ
+panelXSum o i a s rs = W (litBy (illuminantOf i) (curvesOf o .x)) a s rs
 
 -- Y and Z sums likewise, observer 10 with its own functions
-abbrev pub ySum : ℕ → ℕ → ℕ → ℕ → List ℕ → ℕ
-ySum o i a s rs = W (litBy (illuminantOf i) (curvesOf o .y)) a s rs
+abbrev pub panelYSum : ℕ → ℕ → ℕ → ℕ → List ℕ → ℕ
+panelYSum o i a s rs = W (litBy (illuminantOf i) (curvesOf o .y)) a s rs
 
-abbrev pub zSum : ℕ → ℕ → ℕ → ℕ → List ℕ → ℕ
-zSum o i a s rs = W (litBy (illuminantOf i) (curvesOf o .z)) a s rs
+abbrev pub panelZSum : ℕ → ℕ → ℕ → ℕ → List ℕ → ℕ
+panelZSum o i a s rs = W (litBy (illuminantOf i) (curvesOf o .z)) a s rs
 
 -- the white sum adds illuminant times ȳ over the same nanometres, with the ȳ of the observer asked for
 unfoldable pub whiteSum : ℕ → ℕ → ℕ
@@ -56,15 +53,15 @@ whiteSum o i = total 471 (litBy (illuminantOf i) (curvesOf o .y))
 unfoldable pub panelXyzOf : ℕ → ℕ → ℕ → ℕ → List ℕ → XyzAnswer
 panelXyzOf o i a s rs =
     unless (panelCheck o i a s rs) XyzAnswer.Refused
-    (xyzFrom (10 * xSum o i a s rs) (10 * ySum o i a s rs) (10 * zSum o i a s rs) (s * whiteSum o i))
+    (xyzFrom (10 * panelXSum o i a s rs) (10 * panelYSum o i a s rs) (10 * panelZSum o i a s rs) (s * whiteSum o i))
 
 -- x and y come from the three exact sums, each of the first two over the total
 unfoldable pub panelXyOf : ℕ → ℕ → ℕ → ℕ → List ℕ → XyAnswer
 panelXyOf o i a s rs =
-    unless (panelCheck o i a s rs) XyAnswer.Refused (xyFrom (xSum o i a s rs) (ySum o i a s rs) (zSum o i a s rs))
+    unless (panelCheck o i a s rs) XyAnswer.Refused (xyFrom (panelXSum o i a s rs) (panelYSum o i a s rs) (panelZSum o i a s rs))
 
 -- dark where x and y would be refused 9; the other refusals hold as for x and y
 unfoldable pub panelChartOf : ℕ → ℕ → ℕ → ℕ → List ℕ → ChartAnswer
 panelChartOf o i a s rs =
     unless (panelCheck o i a s rs) ChartAnswer.Refused
-    (ChartAnswer.Given (onChart (xyFrom (xSum o i a s rs) (ySum o i a s rs) (zSum o i a s rs))))
+    (ChartAnswer.Given (onChart (xyFrom (panelXSum o i a s rs) (panelYSum o i a s rs) (panelZSum o i a s rs))))

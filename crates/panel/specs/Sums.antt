@@ -1,10 +1,10 @@
--- What the three sums of a panel stand for, and when they are given.
+-- What the three sums of a panel stand for, and when they are given: no promise to a caller rests on the reading of this.
 use mathlib.Core.List.{List}
 use Prim.Native.Nat.{ℕ}
 use Rattle.spectrum.specs.Line.{W}
 use Rattle.curves.specs.declared.weigh.Sums.{Sums}
 use Rattle.curves.specs.Observer.{SumsBy}
-use Rattle.curves.specs.Lit.{litBy}
+use Rattle.tables.specs.Curves.{litBy}
 use Rattle.answers.specs.declared.summed.SumsAnswer.{SumsAnswer}
 use Rattle.answers.specs.Summed.{Summed}
 use Rattle.panel.specs.Panel.{illuminantOf, panelCheck}

@@ -1,4 +1,4 @@
--- Reflectances as the first numbers of a longer row.
+-- Reflectances as the first numbers of a longer row: no promise to a caller rests on the reading of this.
 use mathlib.Core.Path.{_≡_}
 use mathlib.Core.List.{List}
 use Prim.Native.Nat.{ℕ}

@@ -11,10 +11,9 @@ use curves::weigh::Sums;
 use exact::digits::Short;
 use grid::Refusal;
 ghost use mathlib.Core.Path.{_≡_};
-ghost use Prim.Native.Nat.{_+_, _*_, _^_, _<_};
+ghost use Prim.Native.Nat.{_+_, _^_, _<_};
 ghost use Rattle.exact.specs.Value.{short};
-ghost use Rattle.answers.specs.Worked.{xyzFrom, xyFrom};
-ghost use Rattle.panel.specs.Figures.{joinedFigures, panelFiguresOf};
+ghost use Rattle.panel.specs.Figures.{panelFiguresFrom, panelFiguresOf};
 
 // x and y may be refused as dark.
 pub struct PanelFigures {
@@ -46,7 +45,7 @@ pub fn panel_figures(
 // From the three sums and s times the white sum.
 fn figures_from(sums: Sums, divisor: Short) -> PanelFiguresAnswer
     requires { ⌜ short (sums .x) + short (sums .y) + short (sums .z) < 2 ^ 96 ⌝ }
-    ensures { λ r. ⌜ r ≡ joinedFigures (xyzFrom (short (sums .x) * 10) (short (sums .y) * 10) (short (sums .z) * 10) (short divisor)) (xyFrom (short (sums .x)) (short (sums .y)) (short (sums .z))) ⌝ }
+    ensures { λ r. ⌜ r ≡ panelFiguresFrom (short (sums .x)) (short (sums .y)) (short (sums .z)) (short divisor) ⌝ }
 {
     let xyz = xyz_from(sums, 10, divisor);
     match xyz {

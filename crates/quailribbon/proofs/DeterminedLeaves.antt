@@ -13,11 +13,9 @@ use Rattle.curves.specs.declared.weigh.Sums.{Sums}
 use Rattle.quailribbon.proofs.Determined.{OneResult, OneExit, same}
 use Rattle.exact.proofs.digits.joined.Reads as joined
 use Rattle.exact.proofs.digits.times_plus.Reads as times-plus
-use Rattle.exact.proofs.digits.narrow.Reads as narrow
 use Rattle.exact.proofs.digits.short_times_plus.Reads as short-times-plus
 use Rattle.exact.proofs.digits.half.Reads as half
 use Rattle.exact.proofs.divide.nearest.Reads as nearest
-use Rattle.exact.proofs.divide.quotient.Reads as quotient
 use Rattle.exact.proofs.divide.is_zero.Reads as is-zero
 use Rattle.grid.proofs.refused.Reads as refused
 use Rattle.grid.proofs.check_grid.Reads as check-grid
@@ -73,7 +71,7 @@ same-long {r} {q} d g e =
     let low : r .low ≡ q .low = omega arith in
     λ i. record { high = high i; low = low i }
 
-pub record SumsFit (sums : Sums) : Type 0 where
+record SumsFit (sums : Sums) : Type 0 where
   pub x : ShortFits (sums .x)
   pub y : ShortFits (sums .y)
   pub z : ShortFits (sums .z)
@@ -99,9 +97,6 @@ one-joined k a r q e f p s = same-short (p .0) (s .0) (same (p .1) (s .1))
 one-times-plus : OneResult (Fitting LongFits times-plus.Post)
 one-times-plus k a r q e f p s = same-long (p .0) (s .0) (same (p .1) (s .1))
 
-one-narrow : OneResult (Fitting ShortFits narrow.Post)
-one-narrow k a r q e f p s = same-short (p .0) (s .0) (same (p .1) (s .1))
-
 one-short-times-plus : OneResult (Fitting ShortFits short-times-plus.Post)
 one-short-times-plus k a r q e f p s = same-short (p .0) (s .0) (same (p .1) (s .1))
 
@@ -110,9 +105,6 @@ one-half k a r q e f p s = same-short (p .0) (s .0) (same (p .1) (s .1))
 
 one-nearest : OneResult nearest.Post
 one-nearest k a r q e f p s = same p s
-
-one-quotient : OneResult quotient.Post
-one-quotient k a r q e f p s = same p s
 
 one-is-zero : OneResult is-zero.Post
 one-is-zero k a r q e f p s = same p s

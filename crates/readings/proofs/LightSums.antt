@@ -1,7 +1,7 @@
 -- The sums of the row that is laid over a light are the light's.
 use mathlib.Core.List.{List}
 use Prim.Native.Nat.{ℕ}
-use Rattle.spectrum.specs.Line.{rowOf}
+use Rattle.spectrum.specs.Lay.{rowOf}
 use Rattle.spectrum.proofs.Light.{row-weighed}
 use Rattle.curves.specs.declared.weigh.Sums.{Sums}
 use Rattle.curves.specs.Observer.{RowSums}

@@ -13,7 +13,7 @@ use Rattle.answers.specs.declared.XyzAnswer.{XyzAnswer}
 use Rattle.answers.specs.declared.XyAnswer.{XyAnswer}
 use Rattle.answers.specs.Worked.{isFitting, readingFrom, xyzFrom}
 use Rattle.readings.specs.declared.figures.FiguresAnswer.{FiguresAnswer}
-use Rattle.readings.specs.Readings.{together}
+use Rattle.readings.specs.Readings.{figuresTogether}
 
 value-of : (a b c : Bool) (w v : Xyz) (r : Refusal) → cond (a && b && c) (XyzAnswer.Value w) (XyzAnswer.Refused r) ≡ XyzAnswer.Value v → (b ≡ true) × (w ≡ v)
 value-of true true true w v r e = (refl, cc)
@@ -43,14 +43,14 @@ module _ (x y z d : ℕ) where
 
   pub xyz-refused :
       (r : Refusal) (n : ℕ) (xy : XyAnswer) → xyzFrom x y z d ≡ XyzAnswer.Refused r →
-      together (readingFrom y d) (readingFrom n d) (xyzFrom x y z d) xy ≡ FiguresAnswer.Refused r
+      figuresTogether (readingFrom y d) (readingFrom n d) (xyzFrom x y z d) xy ≡ FiguresAnswer.Refused r
   unfolding readingFrom
   xyz-refused r n xy e =
       rw e (go (isFitting (nearest y d)) (isFitting (nearest n d)) (overrange r e))
     where
       go :
           (a b : Bool) → refusal OVERRANGE 0 ≡ r →
-          together (cond a (Reading.Value (nearest y d)) (Reading.Refused (refusal OVERRANGE 0)))
+          figuresTogether (cond a (Reading.Value (nearest y d)) (Reading.Refused (refusal OVERRANGE 0)))
           (cond b (Reading.Value (nearest n d)) (Reading.Refused (refusal OVERRANGE 0))) (XyzAnswer.Refused r) xy
           ≡ FiguresAnswer.Refused r
       go true true h = refl

@@ -1,4 +1,4 @@
--- What the sums of a light, or of a part of its row, stand for.
+-- What the sums of a light, or of a part of its row, stand for: no promise to a caller rests on the reading of this.
 use mathlib.Core.Path.{_≡_}
 use mathlib.Core.List.{List}
 use Prim.Native.Nat.{ℕ}

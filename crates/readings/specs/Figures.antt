@@ -1,4 +1,4 @@
--- The paper's number, place and values of the report's figures.
+-- The rules' number, place and values of the report's figures.
 use mathlib.Core.List.{[], _∷_}
 use Rattle.grid.specs.Said.{Said, given, refusedWith}
 use Rattle.answers.specs.Said.{colourValues}

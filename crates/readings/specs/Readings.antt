@@ -1,4 +1,4 @@
--- Every reading of a light, as the paper's table has it.
+-- Every reading of a light, as the rules' table has it.
 use mathlib.Core.List.{List}
 use Prim.Native.Nat.{ℕ, _+_, _*_, _-_, _^_}
 use lib.Dec.{leb}
@@ -26,12 +26,15 @@ unfoldable pub illuminanceOf : Curve → ℕ → ℕ → ℕ → List ℕ → Re
 illuminanceOf c efficacy a s xs =
     unless (lightCheck a s xs) Reading.Refused (readingFrom (efficacy * weighed c a s xs) (s * 10 ^ 16))
 
+-- photopic: 683 W(V) / (s · 10^16), V being ȳ
 abbrev pub photopicOf : ℕ → ℕ → List ℕ → Reading
 photopicOf a s xs = illuminanceOf YBar 683 a s xs
 
+-- scotopic: 1700 W(V′) / (s · 10^16)
 abbrev pub scotopicOf : ℕ → ℕ → List ℕ → Reading
 scotopicOf a s xs = illuminanceOf VPrime 1700 a s xs
 
+-- 10° photopic: 684 W(V10) / (s · 10^16), V10 being ȳ10
 abbrev pub photopic10Of : ℕ → ℕ → List ℕ → Reading
 photopic10Of a s xs = illuminanceOf YBar10 684 a s xs
 
@@ -51,6 +54,7 @@ mesopicSum k a s xs = 683000 * mesopicWeighed k a s xs
 abbrev pub mesopicDivisor : ℕ → ℕ → ℕ
 mesopicDivisor k s = s * 10 ^ 16 * (1000 * k + 402 * (1000 - k))
 
+-- the mesopic reading at k
 unfoldable pub mesopicOf : ℕ → ℕ → ℕ → List ℕ → Reading
 mesopicOf k a s xs =
     unless (mesopicCheck k a s xs) Reading.Refused (readingFrom (mesopicSum k a s xs) (mesopicDivisor k s))
@@ -59,6 +63,7 @@ mesopicOf k a s xs =
 abbrev pub colourCheck : ℕ → ℕ → ℕ → List ℕ → Check
 colourCheck o a s xs = require (isObserver o) OBSERVER (lightCheck a s xs)
 
+-- W of the observer's x̄, ȳ and z̄
 abbrev pub xSum : ℕ → ℕ → ℕ → List ℕ → ℕ
 xSum o a s xs = weighed (curvesOf o .x) a s xs
 
@@ -86,13 +91,18 @@ chartOf o a s xs =
     (ChartAnswer.Given (onChart (xyFrom (xSum o a s xs) (ySum o a s xs) (zSum o a s xs))))
 
 -- four answers as one: the first refusal among photopic, scotopic and X, Y, Z, or all figures
-abbrev pub together : Reading → Reading → XyzAnswer → XyAnswer → FiguresAnswer
-together (Reading.Refused r) scotopic xyz xy = FiguresAnswer.Refused r
-together (Reading.Value p) (Reading.Refused r) xyz xy = FiguresAnswer.Refused r
-together (Reading.Value p) (Reading.Value q) (XyzAnswer.Refused r) xy = FiguresAnswer.Refused r
-together (Reading.Value p) (Reading.Value q) (XyzAnswer.Value v) xy =
+abbrev pub figuresTogether : Reading → Reading → XyzAnswer → XyAnswer → FiguresAnswer
+figuresTogether (Reading.Refused r) scotopic xyz xy = FiguresAnswer.Refused r
+figuresTogether (Reading.Value p) (Reading.Refused r) xyz xy = FiguresAnswer.Refused r
+figuresTogether (Reading.Value p) (Reading.Value q) (XyzAnswer.Refused r) xy = FiguresAnswer.Refused r
+figuresTogether (Reading.Value p) (Reading.Value q) (XyzAnswer.Value v) xy =
     FiguresAnswer.Value (record { photopic = p; scotopic = q; xyz = v; xy = xy })
+
+-- those of the sums x, y, z of observer 2 and of V′'s sum, over d
+abbrev pub figuresFrom : ℕ → ℕ → ℕ → ℕ → ℕ → FiguresAnswer
+figuresFrom x y z night d =
+    figuresTogether (readingFrom (683 * y) d) (readingFrom (1700 * night) d) (xyzFrom (683 * x) (683 * y) (683 * z) d) (xyFrom x y z)
 
 -- the figures of the report, at observer 2
 abbrev pub figuresOf : ℕ → ℕ → List ℕ → FiguresAnswer
-figuresOf a s xs = together (photopicOf a s xs) (scotopicOf a s xs) (xyzOf 2 a s xs) (xyOf 2 a s xs)
+figuresOf a s xs = figuresTogether (photopicOf a s xs) (scotopicOf a s xs) (xyzOf 2 a s xs) (xyOf 2 a s xs)

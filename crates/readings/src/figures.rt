@@ -15,10 +15,9 @@ use grid::Refusal;
 use grid::check_light;
 use spectrum::line::begin_at_360;
 ghost use mathlib.Core.Path.{_≡_};
-ghost use Prim.Native.Nat.{_+_, _*_, _^_, _<_};
+ghost use Prim.Native.Nat.{_+_, _^_, _<_};
 ghost use Rattle.exact.specs.Value.{short};
-ghost use Rattle.answers.specs.Worked.{readingFrom, xyzFrom, xyFrom};
-ghost use Rattle.readings.specs.Readings.{together, figuresOf};
+ghost use Rattle.readings.specs.Readings.{figuresOf, figuresFrom};
 
 // x and y may be refused as dark.
 pub struct ReportFigures {
@@ -53,7 +52,7 @@ pub fn figures(start: u32, step: u32, samples: &[u32]) -> FiguresAnswer
 // From the four sums and the divisor. Photopic is Y, which is not divided twice.
 fn figures_from(sums: FigureSums, divisor: Short) -> FiguresAnswer
     requires { ⌜ short (sums .colour .x) + short (sums .colour .y) + short (sums .colour .z) < 2 ^ 96 ⌝ }
-    ensures { λ r. ⌜ r ≡ together (readingFrom (683 * short (sums .colour .y)) (short divisor)) (readingFrom (1700 * short (sums .night)) (short divisor)) (xyzFrom (683 * short (sums .colour .x)) (683 * short (sums .colour .y)) (683 * short (sums .colour .z)) (short divisor)) (xyFrom (short (sums .colour .x)) (short (sums .colour .y)) (short (sums .colour .z))) ⌝ }
+    ensures { λ r. ⌜ r ≡ figuresFrom (short (sums .colour .x)) (short (sums .colour .y)) (short (sums .colour .z)) (short (sums .night)) (short divisor) ⌝ }
 {
     let colour = sums.colour;
     let night = sums.night;

@@ -40,7 +40,7 @@ num-bitsOf (suc k) v =
     ∙ ap (λ (n : ℕ). v % 2 ^ n) (one-add k)
 
 -- what lies above k bits is not seen in them
-pub bitsOf-low : (k u v : ℕ) → bitsOf k (u * 2 ^ k + v) ≡ bitsOf k v
+bitsOf-low : (k u v : ℕ) → bitsOf k (u * 2 ^ k + v) ≡ bitsOf k v
 unfolding bitsOf
 bitsOf-low zero u v = refl
 bitsOf-low (suc k) u v =

@@ -34,7 +34,7 @@ body-split n bits =
     cut-append (replicate n 20) (replicate (n % 2) 4) bits
     ∙ ap (λ (k : ℕ). cut (replicate n 20) bits ++ cut (replicate (n % 2) 4) (drop k bits)) (widthsSum-replicate n 20)
 
-pub length-samples : (n : ℕ) (bits : List ℕ) → length (cut (replicate n 20) bits) ≡ n
+length-samples : (n : ℕ) (bits : List ℕ) → length (cut (replicate n 20) bits) ≡ n
 length-samples n bits = length-cut (replicate n 20) bits ∙ length-replicate n 20
 
 pub samples-cut : (n : ℕ) (bytes : List ℕ) → samplesOf n bytes ≡ cut (replicate n 20) (drop 24 (bitsOfBytes bytes))

@@ -20,7 +20,7 @@ pairBytes x y = cut (bytewise 5) (pack (20 ∷ 20 ∷ []) (x ∷ y ∷ []))
 abbrev pub threeBytes : ℕ → List ℕ
 threeBytes v = cut (bytewise 3) (bitsOf 24 v)
 
-pub body-pair : (x y : ℕ) (xs : List ℕ) → x < 2 ^ 20 → y < 2 ^ 20 → bodyOf (x ∷ y ∷ xs) ≡ pairBytes x y ++ bodyOf xs
+body-pair : (x y : ℕ) (xs : List ℕ) → x < 2 ^ 20 → y < 2 ^ 20 → bodyOf (x ∷ y ∷ xs) ≡ pairBytes x y ++ bodyOf xs
 unfolding bodyOf
 body-pair x y xs h l =
     let n = length xs in
@@ -32,7 +32,7 @@ body-pair x y xs h l =
     (ap₂ cut (sym (replicate-append-replicate 5 m 8)) (pack-append (bodyWidths n) (bodyFields xs) fit))
     ∙ cut-join (bytewise 5) (bytewise m) (pack (20 ∷ 20 ∷ []) (x ∷ y ∷ [])) (pack (bodyWidths n) (bodyFields xs)) (length-pack fit)
 
-pub body-last : (x : ℕ) → x < 2 ^ 20 → bodyOf (x ∷ []) ≡ threeBytes (x * 16)
+body-last : (x : ℕ) → x < 2 ^ 20 → bodyOf (x ∷ []) ≡ threeBytes (x * 16)
 unfolding bodyOf
 body-last x h = ap (cut (bytewise 3)) (pack-whole {ks = 20 ∷ 4 ∷ []} {vs = x ∷ 0 ∷ []} (more h (more (omega arith) none)) ∙ ap (bitsOf 24) (omega arith))
 

@@ -35,9 +35,9 @@ module _ (bytes : List ℕ) where
   unfolding recordCheck
   header-refused r e = rw e
 
-  pub header-passed : (room : ℕ) → headerCheck bytes ≡ Fine → readCheck bytes room ≡ restCheck (countOf bytes) bytes room
+  pub rest-left : (room : ℕ) → headerCheck bytes ≡ Fine → readCheck bytes room ≡ restCheck (countOf bytes) bytes room
   unfolding recordCheck
-  header-passed room e = rw e
+  rest-left room e = rw e
 
 -- what an answer tells of its check
 pub answer-refused : (check : Check) (h : Header) (r : Refusal) → unless check read.Refused (read.Read h) ≡ read.Refused r → check ≡ Refused r

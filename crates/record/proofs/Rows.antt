@@ -77,7 +77,7 @@ cut-append (k ∷ ks) js bits =
     (cut-append ks js (drop k bits) ∙ ap (λ (r : List ℕ). cut ks (drop k bits) ++ cut js r) (drop-drop (widthsSum ks) k bits))
 
 -- what was packed comes out again
-pub cut-pack : {ks vs : List ℕ} (rest : List ℕ) → Fit ks vs → cut ks (pack ks vs ++ rest) ≡ vs
+cut-pack : {ks vs : List ℕ} (rest : List ℕ) → Fit ks vs → cut ks (pack ks vs ++ rest) ≡ vs
 unfolding pack cut
 cut-pack rest none = refl
 cut-pack rest (more {k} {v} {ks} {vs} h t) =
@@ -88,18 +88,18 @@ cut-pack rest (more {k} {v} {ks} {vs} h t) =
     (ap num (take-at (bitsOf k v) (pack ks vs ++ rest) k l) ∙ num-bitsOf k v ∙ mod-eq-of-lt h)
     (ap (cut ks) (drop-at (bitsOf k v) (pack ks vs ++ rest) k l) ∙ cut-pack rest t))
 
-pub bits-take : (k : ℕ) (bits : List ℕ) → Bits bits → Bits (take k bits)
+bits-take : (k : ℕ) (bits : List ℕ) → Bits bits → Bits (take k bits)
 bits-take zero bits h = tt
 bits-take (suc k) [] h = tt
 bits-take (suc k) (b ∷ bits) h = (h .0, bits-take k bits (h .1))
 
-pub bits-drop : (k : ℕ) (bits : List ℕ) → Bits bits → Bits (drop k bits)
+bits-drop : (k : ℕ) (bits : List ℕ) → Bits bits → Bits (drop k bits)
 bits-drop zero bits h = h
 bits-drop (suc k) [] h = tt
 bits-drop (suc k) (b ∷ bits) h = bits-drop k bits (h .1)
 
 -- what was cut goes together again
-pub pack-cut : (ks bits : List ℕ) → Bits bits → length bits ≡ widthsSum ks → pack ks (cut ks bits) ≡ bits
+pack-cut : (ks bits : List ℕ) → Bits bits → length bits ≡ widthsSum ks → pack ks (cut ks bits) ≡ bits
 unfolding pack cut
 pack-cut [] [] h l = refl
 pack-cut [] (b ∷ bits) h l = absurd (omega arith)
@@ -161,7 +161,7 @@ cut-digits (k ∷ ks) v rest =
     (ap (λ (r : List ℕ). cut ks (drop k r)) e ∙ ap (cut ks) (drop-at first (bitsOf m v ++ rest) k l) ∙ cut-digits ks v rest)
 
 -- widths that the first bits fill see nothing of those behind
-pub cut-front : (ks bits rest : List ℕ) → widthsSum ks ≤ length bits → cut ks (bits ++ rest) ≡ cut ks bits
+cut-front : (ks bits rest : List ℕ) → widthsSum ks ≤ length bits → cut ks (bits ++ rest) ≡ cut ks bits
 unfolding cut
 cut-front [] bits rest h = refl
 cut-front (k ∷ ks) bits rest h =

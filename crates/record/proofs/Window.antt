@@ -11,16 +11,16 @@ use Rattle.record.specs.Leaf.{threeAt}
 use Rattle.record.proofs.Bits.{length-bitsOf, join, field}
 use Rattle.record.proofs.Rows.{Fit, none, more, widthsSum, widthsSum-replicate, whole, whole-lt}
 
-pub bytes-tail : (x : ℕ) (bytes : List ℕ) → Bytes (x ∷ bytes) → Bytes bytes
+bytes-tail : (x : ℕ) (bytes : List ℕ) → Bytes (x ∷ bytes) → Bytes bytes
 bytes-tail x bytes h k = h (suc k)
 
-pub bytes-drop : (q : ℕ) (bytes : List ℕ) → Bytes bytes → Bytes (drop q bytes)
+bytes-drop : (q : ℕ) (bytes : List ℕ) → Bytes bytes → Bytes (drop q bytes)
 bytes-drop zero bytes h = h
 bytes-drop (suc q) [] h = h
 bytes-drop (suc q) (x ∷ bytes) h = bytes-drop q bytes (bytes-tail x bytes h)
 
 -- behind eight times q bits stand the bits of the bytes from q on
-pub drop-bytes : (q : ℕ) (bytes : List ℕ) → drop (8 * q) (bitsOfBytes bytes) ≡ bitsOfBytes (drop q bytes)
+drop-bytes : (q : ℕ) (bytes : List ℕ) → drop (8 * q) (bitsOfBytes bytes) ≡ bitsOfBytes (drop q bytes)
 unfolding pack
 drop-bytes zero bytes = refl
 drop-bytes (suc q) [] = drop-nil (8 * suc q)

@@ -1,4 +1,4 @@
--- The packed record, field by field, as the document prints it.
+-- The packed record, field by field, as the rules print it.
 use mathlib.Core.Bool.{cond}
 use mathlib.Core.List.{List, [], _∷_, _++_}
 use Prim.Native.Nat.{ℕ, _+_, _*_, _-_, _/_, _%_}

@@ -1,4 +1,4 @@
--- The paper's number, place and values of reading and of writing a record.
+-- The rules' number, place and values of reading and of writing a record.
 use mathlib.Core.List.{[], _∷_}
 use Prim.Native.Nat.{ℕ}
 use Rattle.grid.specs.Said.{Said, given, refusedWith}

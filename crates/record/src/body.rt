@@ -1,4 +1,6 @@
 // What stands behind the header: its length, its padding and its samples, checked and then copied.
+use crate::unpack::unpack;
+use grid::Check;
 use grid::refusals::LENGTH;
 use grid::refusals::PADDING;
 use grid::refusals::ROOM;
@@ -9,8 +11,6 @@ ghost use lib.ListN.{length, drop};
 ghost use lib.Dec.{eqb};
 ghost use Rattle.record.specs.Leaf.{restCheck, restRow};
 ghost use Rattle.record.specs.Format.{lengthOf, paddingOf};
-use crate::unpack::unpack;
-use grid::Check;
 
 // The bytes of a record of so many samples.
 pub fn length_of(count: usize) -> usize
@@ -40,7 +40,7 @@ pub fn read_body(bytes: &[u8], count: usize, samples: &mut [u32]) -> Check
     if samples.len() < count {
         return grid::refused(ROOM);
     }
-    copy(&row[..count], samples);
+    fill_row(&row[..count], samples);
     Check::Fine
 }
 
@@ -56,7 +56,7 @@ fn padding_is_clear(bytes: &[u8], count: usize) -> bool
 }
 
 // Copies a row to the front of another.
-fn copy(row: &[u32], samples: &mut [u32])
+fn fill_row(row: &[u32], samples: &mut [u32])
     requires { ⌜ length (now row) ≤ length (now samples) ⌝ }
     ensures { λ _. ⌜ now (samples .exit) ≡ now (row .entry) ++ drop (length (now (row .entry))) (now (samples .entry)) ⌝ }
 {

@@ -1,4 +1,9 @@
 // The record's header: three bytes that are one number, and the fields in it.
+use crate::Header;
+use crate::RecordRead;
+use crate::triple::three;
+use grid::Check;
+use grid::Refusal;
 use grid::refusals::EDITION;
 use grid::refusals::LENGTH;
 use grid::refusals::RESERVED;
@@ -8,11 +13,6 @@ ghost use Rattle.grid.specs.Check.{refusal};
 ghost use Rattle.record.specs.Leaf.{headerAnswer};
 ghost use Rattle.record.specs.Bits.{bitsOf, pack};
 ghost use Rattle.record.specs.Format.{headerFields, headerWidths, stepOfCode, codeOf};
-use crate::Header;
-use crate::RecordRead;
-use crate::triple::three;
-use grid::Check;
-use grid::Refusal;
 
 // LENGTH where under 3 bytes, EDITION, RESERVED, START, COUNT.
 pub fn read_header(bytes: &[u8]) -> RecordRead

@@ -1,17 +1,17 @@
 // The packed record: a spectrum's start, step and samples in as few bits as they need.
-use grid::refusals::ROOM;
-ghost use mathlib.Core.Path.{_≡_};
-ghost use lib.ListN.{length};
-ghost use Rattle.grid.specs.Check.{lightCheck};
-ghost use Rattle.record.specs.Answer.{readAnswer, rowAfter, writeAnswer, bytesAfter};
-use grid::Check;
-use grid::Refusal;
-
 mod body;
 mod head;
 mod pack;
 mod triple;
 mod unpack;
+
+use grid::Check;
+use grid::Refusal;
+use grid::refusals::ROOM;
+ghost use mathlib.Core.Path.{_≡_};
+ghost use lib.ListN.{length};
+ghost use Rattle.grid.specs.Check.{lightCheck};
+ghost use Rattle.record.specs.Answer.{readAnswer, rowAfter, writeAnswer, bytesAfter};
 
 // What a record's header says of its spectrum.
 pub struct Header {

@@ -1,4 +1,5 @@
 // The samples into a record's bytes.
+use crate::triple::put_three;
 ghost use mathlib.Core.Path.{_≡_};
 ghost use mathlib.Core.List.{[], _∷_};
 ghost use Prim.Native.Nat.{_+_, _^_, _<_, _≤_};
@@ -7,7 +8,6 @@ ghost use Rattle.grid.specs.Check.{Within};
 ghost use Rattle.record.specs.Bits.{cut, pack, bytewise};
 ghost use Rattle.record.specs.Format.{lengthOf};
 ghost use Rattle.record.specs.Leaf.{stored, bodyOf};
-use crate::triple::put_three;
 
 // Stores the bytes behind the header: five for two samples, and three for an odd last one.
 pub fn pack(samples: &[u32], bytes: &mut [u8])

@@ -1,10 +1,10 @@
 // The samples out of a record's bytes.
+use crate::triple::three;
 ghost use mathlib.Core.Path.{_≡_};
 ghost use mathlib.Core.List.{_++_};
 ghost use Prim.Native.Nat.{_<_, _≤_};
 ghost use lib.ListN.{length, drop, getD};
 ghost use Rattle.record.specs.Format.{lengthOf, samplesOf};
-use crate::triple::three;
 
 // Fills the front of the row with the record's samples.
 pub fn unpack(bytes: &[u8], count: usize, row: &mut [u32])

@@ -23,7 +23,7 @@ use Rattle.record.proofs.Accepted.{fit-header}
 use Rattle.record.proofs.Reading.{record-fine, accept}
 
 -- the fields of n samples fill whole bytes
-pub whole-bytes : (n : ℕ) → widthsSum (headerWidths ++ bodyWidths n) ≡ widthsSum (bytewise (lengthOf n))
+whole-bytes : (n : ℕ) → widthsSum (headerWidths ++ bodyWidths n) ≡ widthsSum (bytewise (lengthOf n))
 whole-bytes n =
     let body : widthsSum (bodyWidths n) ≡ 20 * n + 4 * (n % 2) =
     widthsSum-append (replicate n 20) (replicate (n % 2) 4) ∙ ap₂ (λ (x y : ℕ). x + y) (widthsSum-replicate n 20) (widthsSum-replicate (n % 2) 4) in
@@ -31,10 +31,10 @@ whole-bytes n =
     let halves = five-halves n in
     omega arith
 
-pub step-code : (s : ℕ) → isStep s ≡ true → stepOfCode (codeOf s) ≡ s
+step-code : (s : ℕ) → isStep s ≡ true → stepOfCode (codeOf s) ≡ s
 step-code s e = ⊎-elim (λ p. rw p) (⊎-elim (λ p. rw p) (⊎-elim (λ p. rw p) (λ p. rw p))) (step-cases s e)
 
-pub code-step : (c : ℕ) → c < 4 → codeOf (stepOfCode c) ≡ c
+code-step : (c : ℕ) → c < 4 → codeOf (stepOfCode c) ≡ c
 code-step zero h = refl
 code-step (suc zero) h = refl
 code-step (suc (suc zero)) h = refl

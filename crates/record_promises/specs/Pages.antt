@@ -1,6 +1,6 @@
 -- What is promised of pages: none is blank or long, whatever the bytes are; and what the page of a dark room and the example's are.
 use mathlib.Core.Path.{_≡_}
-use mathlib.Core.List.{List, _∷_, _++_}
+use mathlib.Core.List.{List, _++_}
 use Prim.Native.Nat.{ℕ, _-_, _≤_}
 use lib.ListN.{length, drop, replicate}
 use Rattle.grid.specs.declared.Check.the-variants.{Fine}
@@ -11,6 +11,7 @@ use Rattle.page.specs.Text.{ascii}
 use Rattle.page.specs.Report.{reportOf, newline}
 use Rattle.page.specs.Answer.{reportAnswer}
 use Rattle.page.specs.Said.{saidReported}
+use Rattle.record_promises.specs.Records.{exampleSamples}
 
 -- a page is not empty, and its last byte is a newline; it has at most 99 bytes, so a text of 99 bytes is room enough
 pub record Page : Type 0 where
@@ -34,7 +35,7 @@ darkText =
 pub record Dark : Type 0 where
   pub page : (a s n : ℕ) → gridCheck a s n ≡ Fine → reportOf (recordOf a s (replicate n 0)) ≡ darkText
 
--- the paper's example, line by line: 380 nm, step 1, 401 samples, all 0 but 1,000,000 at 460 nm
+-- the rules' example, line by line
 abbrev pub exampleText : List ℕ
 exampleText =
     ascii "photopic 40980\n"
@@ -46,4 +47,4 @@ exampleText =
     ++ ascii "y 0.02970\n"
 
 pub record ExamplePage : Type 0 where
-  pub page : reportOf (recordOf 380 1 (replicate 80 0 ++ 1000000 ∷ replicate 320 0)) ≡ exampleText
+  pub page : reportOf (recordOf 380 1 exampleSamples) ≡ exampleText

@@ -46,8 +46,12 @@ pub record Length : Type 0 where
   pub least : (a s : ℕ) (xs : List ℕ) → lightCheck a s xs ≡ Fine → 106 ≤ lengthOf (length xs)
   pub most : (a s : ℕ) (xs : List ℕ) → lightCheck a s xs ≡ Fine → lengthOf (length xs) ≤ 1331
 
--- 380 nm, step 1, 401 samples, all 0 but 1,000,000 at 460 nm: the record has 1,006 bytes and begins hex 12 83 22
+-- 401 samples, all 0 but 1,000,000 at 460 nm where they begin at 380 and have step 1
+abbrev pub exampleSamples : List ℕ
+exampleSamples = replicate 80 0 ++ 1000000 ∷ replicate 320 0
+
+-- their record has 1,006 bytes and begins hex 12 83 22
 pub record ExampleRecord : Type 0 where
-  pub accepted : lightCheck 380 1 (replicate 80 0 ++ 1000000 ∷ replicate 320 0) ≡ Fine
-  pub length : length (recordOf 380 1 (replicate 80 0 ++ 1000000 ∷ replicate 320 0)) ≡ 1006
-  pub begins : take 3 (recordOf 380 1 (replicate 80 0 ++ 1000000 ∷ replicate 320 0)) ≡ 0x12 ∷ 0x83 ∷ 0x22 ∷ []
+  pub accepted : lightCheck 380 1 exampleSamples ≡ Fine
+  pub length : length (recordOf 380 1 exampleSamples) ≡ 1006
+  pub begins : take 3 (recordOf 380 1 exampleSamples) ≡ 0x12 ∷ 0x83 ∷ 0x22 ∷ []

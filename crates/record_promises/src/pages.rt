@@ -11,7 +11,7 @@ pub fn promise_dark()
     ensures { λ _. ⌜ Dark ⌝ }
 {}
 
-// The document's own example.
+// The rules' own example.
 pub fn promise_example_page()
     ensures { λ _. ⌜ ExamplePage ⌝ }
 {}

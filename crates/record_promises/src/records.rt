@@ -21,7 +21,7 @@ pub fn promise_length()
     ensures { λ _. ⌜ Length ⌝ }
 {}
 
-// The document's own example.
+// The rules' own example.
 pub fn promise_example_record()
     ensures { λ _. ⌜ ExampleRecord ⌝ }
 {}

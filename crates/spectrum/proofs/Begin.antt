@@ -9,7 +9,8 @@ use lib.Seq.{take-all, getD-drop}
 use Rattle.grid.specs.Check.{Within}
 use Rattle.grid.proofs.Accepted.{OnGrid}
 use Rattle.mixing.specs.Sum.{weighted, entryOf}
-use Rattle.spectrum.specs.Line.{rowOf, W}
+use Rattle.spectrum.specs.Line.{W}
+use Rattle.spectrum.specs.Lay.{rowOf}
 use Rattle.spectrum.specs.Begin.{Begins, Begun}
 use Rattle.spectrum.specs.declared.line.Begin.{Begin}
 use Rattle.spectrum.proofs.Lay.{steps-few, part-of, row-from}

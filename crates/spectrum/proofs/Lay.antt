@@ -12,8 +12,8 @@ use lib.Seq.{ext-getD, getD-set-same, getD-set-other}
 use lib.Dec.{leb, ltb}
 use Rattle.grid.specs.Check.{lastOf}
 use Rattle.grid.proofs.Accepted.{OnGrid}
-use Rattle.spectrum.specs.Line.{lineAt, T, listed, rowOf, Part, Unmeasured}
-use Rattle.spectrum.specs.Lay.{LaidTo}
+use Rattle.spectrum.specs.Line.{lineAt, T}
+use Rattle.spectrum.specs.Lay.{listed, rowOf, Part, Unmeasured, LaidTo}
 use Rattle.spectrum.proofs.Measured.{line-at, T-measured, T-below, T-above, T-from}
 
 pub length-listed : (n : ℕ) (f : ℕ → ℕ) → length (listed n f) ≡ n
@@ -81,7 +81,7 @@ module _ (a s : ℕ) (xs : List ℕ) (on : OnGrid a s (length xs)) where
   abbrev j : ℕ
   j = (360 - a) / s
 
-  pub steps : (s * j ≤ 360 - a) × (360 - a < s * j + s)
+  steps : (s * j ≤ 360 - a) × (360 - a < s * j + s)
   steps =
       let pos : 0 < s = on .step-low in
       let x : (360 - a) / s * s ≤ 360 - a = div-mul-le-self (360 - a) s in

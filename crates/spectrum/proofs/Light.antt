@@ -7,13 +7,14 @@ use Rattle.grid.specs.Check.{Within}
 use Rattle.grid.proofs.Limit.{within-row}
 use Rattle.mixing.specs.Sum.{total, weighted, entryOf}
 use Rattle.mixing.proofs.Sum.{weighted-ext, weighted-bound}
-use Rattle.spectrum.specs.Line.{T, listed, rowOf, W}
+use Rattle.spectrum.specs.Line.{T, W}
+use Rattle.spectrum.specs.Lay.{listed, rowOf}
 use Rattle.spectrum.specs.Begin.{Begun}
 use Rattle.spectrum.proofs.Measured.{T-bound}
 use Rattle.spectrum.proofs.Lay.{length-listed, getD-listed}
 
 -- no place of the row is above 10 times the samples' limit
-pub row-within : (a s limit : ℕ) (xs : List ℕ) → 1 ≤ s → s ≤ 10 → Within limit xs → Within (10 * limit) (rowOf a s xs)
+row-within : (a s limit : ℕ) (xs : List ℕ) → 1 ≤ s → s ≤ 10 → Within limit xs → Within (10 * limit) (rowOf a s xs)
 unfolding rowOf
 row-within a s limit xs low high within =
     let f : ℕ → ℕ = λ q. T a s xs (360 + q) in

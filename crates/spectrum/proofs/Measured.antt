@@ -23,7 +23,7 @@ line-at s xs i d h =
     rw (q, r)
 
 -- counted from sample j on, the line is the same
-pub line-from : (s : ℕ) (xs : List ℕ) (j e : ℕ) → 0 < s → lineAt s xs (s * j + e) ≡ lineAt s (drop j xs) e
+line-from : (s : ℕ) (xs : List ℕ) (j e : ℕ) → 0 < s → lineAt s xs (s * j + e) ≡ lineAt s (drop j xs) e
 unfolding lineAt
 line-from s xs j e pos =
     let q : (s * j + e) / s ≡ j + e / s = mul-add-div pos j e in
@@ -56,7 +56,7 @@ T-from a s xs j w pos h l =
 
 module _ (a s limit : ℕ) (xs : List ℕ) (within : Within limit xs) where
   -- T is at most s times the largest sample
-  pub line-bound : (e : ℕ) → 0 < s → lineAt s xs e ≤ s * limit
+  line-bound : (e : ℕ) → 0 < s → lineAt s xs e ≤ s * limit
   unfolding lineAt
   line-bound e pos =
       let r : e % s < s = mod-lt e pos in
@@ -74,7 +74,7 @@ module _ (a s limit : ℕ) (xs : List ℕ) (within : Within limit xs) where
       go false = zero-le
 
 -- mixed spectra have mixed lines
-pub line-linear : (n s e : ℕ) → Linear n (λ xs. lineAt s xs e)
+line-linear : (n s e : ℕ) → Linear n (λ xs. lineAt s xs e)
 unfolding lineAt
 line-linear n s e = record {
   adds = λ xs ys p q.
@@ -84,7 +84,7 @@ line-linear n s e = record {
       rw (i, j) (omega arith);
 }
 
-pub T-linear : (n a s w : ℕ) → Linear n (λ xs. T a s xs w)
+T-linear : (n a s w : ℕ) → Linear n (λ xs. T a s xs w)
 unfolding T endRule
 T-linear n a s w = record {
   adds = λ xs ys p q.

@@ -4,7 +4,7 @@ use mathlib.Core.List.{List}
 use Prim.Native.Nat.{ℕ, _+_, _*_, _-_, _/_}
 use lib.ListN.{length}
 use Rattle.grid.specs.Check.{Within}
-use Rattle.spectrum.specs.Line.{Part}
+use Rattle.spectrum.specs.Lay.{Part}
 use Rattle.spectrum.specs.declared.line.Begin.{Begin}
 
 -- the sample at or just below 360, or the first one where the row begins above: its place and its wavelength

@@ -4,7 +4,7 @@ use crate::walk::walk;
 ghost use mathlib.Core.Path.{_≡_};
 ghost use Prim.Native.Nat.{_+_, _*_, _-_, _/_, _<_, _≤_};
 ghost use lib.ListN.{length};
-ghost use Rattle.spectrum.specs.Line.{rowOf, Part, Unmeasured};
+ghost use Rattle.spectrum.specs.Lay.{rowOf, Part, Unmeasured};
 ghost use Rattle.spectrum.specs.Begin.{Begins};
 
 // Where the part of a row that carries weight begins: at the sample at or just below 360 nm, or at the first one.

@@ -2,8 +2,7 @@
 ghost use mathlib.Core.Path.{_≡_};
 ghost use Prim.Native.Nat.{_+_, _*_, _-_, _^_, _<_, _≤_};
 ghost use lib.ListN.{length};
-ghost use Rattle.spectrum.specs.Line.{rowOf, Part, Unmeasured};
-ghost use Rattle.spectrum.specs.Lay.{LaidTo};
+ghost use Rattle.spectrum.specs.Lay.{rowOf, Part, Unmeasured, LaidTo};
 
 // At step 1 the line is the samples.
 pub fn copy(first: u32, part: &[u32], row: &mut [u64; 471])
@@ -16,23 +15,23 @@ pub fn copy(first: u32, part: &[u32], row: &mut [u64; 471])
     }
 }
 
-// The first stretch begins at 360 nm, which may be above the first sample; the others begin at a sample.
+// The first part of it begins at 360 nm, which may be above the first sample; the others begin at a sample.
 pub fn walk(first: u32, step: u32, part: &[u32], row: &mut [u64; 471])
     requires { ⌜ Part first step (length (now part)) × Unmeasured (now row) ⌝ }
     ensures { λ _. ⌜ now (row .exit) ≡ rowOf first step (now (part .entry)) ⌝ }
 {
     let last = part.len() - 1;
     let place = place_of(first);
-    stretch(first, step, part, 0, 360 + place as u32 - first, row);
+    lay_between(first, step, part, 0, 360 + place as u32 - first, row);
     for i in 1..last {
-        stretch(first, step, part, i, 0, row);
+        lay_between(first, step, part, i, 0, row);
     }
     let end = place_of(first + step * last as u32);
     row[end] = between(step, 0, wide(part[last]), 0);
 }
 
 // The line from so many nanometres above a sample up to the next one.
-fn stretch(first: u32, step: u32, part: &[u32], i: usize, from: u32, row: &mut [u64; 471])
+fn lay_between(first: u32, step: u32, part: &[u32], i: usize, from: u32, row: &mut [u64; 471])
     requires { ⌜ Part first step (length (now part)) × (i + 1 < length (now part)) × (from < step) × (360 ≤ first + step * i + from) × LaidTo first step (now part) (now row) (first + step * i + from - 360) ⌝ }
     ensures { λ _. ⌜ LaidTo first step (now (part .entry)) (now (row .exit)) (first + step * (i + 1) - 360) ⌝ }
 {

@@ -11,7 +11,7 @@ use Rattle.mixing.proofs.Sum.{total-ext, total-list}
 use Rattle.tables.specs.Tables.{xBar, yBar, zBar, xBar10, yBar10, zBar10, vPrime}
 use Rattle.tables.specs.Curves.{table, weightOf}
 use Rattle.tables.specs.Columns.{largest}
-use Rattle.tables.specs.Held.{units, unitAt, countedFrom, inUnits, valueOf, InOrder, Counts, Held}
+use Rattle.tables.specs.Held.{units, unitAt, countedFrom, inUnits, valueOf, EndsInOrder, Counts, Held}
 use Rattle.tables.specs.declared.Curve.{Curve}
 use Rattle.tables.specs.declared.Curve.the-variants.{XBar, YBar, ZBar, XBar10, YBar10, ZBar10, VPrime}
 use Rattle.tables.specs.declared.units.Units.{Units}
@@ -40,7 +40,7 @@ record HeldTable (u : Units) (xs full : List ℕ) : Type 0 where
   no-digit-lost : valuesFrom 0 u xs ≡ full
   each : largest xs ≤ 4294967295
   all : sumOf xs ≤ 1000000000000
-  in-order : InOrder u
+  in-order : EndsInOrder u
 
 held-table : (c : Curve) → HeldTable (units c) (inUnits c) (table c)
 unfolding valuesFrom sumOf largest inUnits countedFrom unitAt table xBar yBar zBar xBar10 yBar10 zBar10 vPrime

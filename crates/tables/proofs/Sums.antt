@@ -1,10 +1,10 @@
 -- What a curve's weights can add up to, alone and under an illuminant.
-use Prim.Native.Nat.{_*_, _≤_}
+use Prim.Native.Nat.{_≤_}
 use native.Mathlib.Nat.{le-refl, le-trans, mul-le-mul-left}
 use lib.Dec.{lit≤}
 use Rattle.mixing.specs.Sum.{total, weighted}
 use Rattle.mixing.proofs.Sum.{weighted-bound, weighted-swap}
-use Rattle.tables.specs.Curves.{weightOf, powerOf}
+use Rattle.tables.specs.Curves.{weightOf, powerOf, litBy}
 use Rattle.tables.specs.Columns.{tableSum}
 use Rattle.tables.proofs.Columns.{column-total, power-bound}
 use Rattle.tables.specs.declared.Curve.{Curve}
@@ -23,7 +23,7 @@ curve-sum c = rw (column-total c) (few c)
     few ZBar10 = lit≤ tt
     few VPrime = lit≤ tt
 
-pub lit-total : (i : Illuminant) (c : Curve) → total 471 (λ k. powerOf i k * weightOf c k) ≤ 52320400000000000000000
+pub lit-total : (i : Illuminant) (c : Curve) → total 471 (litBy i c) ≤ 52320400000000000000000
 unfolding weighted
 lit-total i c =
     rw (weighted-swap 471 (powerOf i) (weightOf c))

@@ -7,7 +7,7 @@ use lib.ListN.{length, getD}
 use Rattle.mixing.specs.Sum.{total}
 use Rattle.mixing.proofs.Sum.{total-first}
 use Rattle.tables.specs.Tables.{yBar, yBar10, illuminantA, illuminantD65}
-use Rattle.tables.specs.Curves.{table, powers, weightOf, powerOf}
+use Rattle.tables.specs.Curves.{table, powers, litBy}
 use Rattle.tables.specs.declared.Curve.{Curve}
 use Rattle.tables.specs.declared.Curve.the-variants.{YBar, YBar10}
 use Rattle.tables.specs.declared.Illuminant.{Illuminant}
@@ -29,7 +29,7 @@ total-products (x ∷ xs) (y ∷ ys) e =
     ∙ ap (λ (z : ℕ). x * y + z) (total-products xs ys (omega arith))
 
 abbrev sumUnder : Illuminant → Curve → ℕ
-sumUnder i c = total 471 (λ k. powerOf i k * weightOf c k)
+sumUnder i c = total 471 (litBy i c)
 
 -- over the two lists it is computed in one walk
 in-one-walk : (i : Illuminant) (c : Curve) → sumUnder i c ≡ productsOf (powers i) (table c)

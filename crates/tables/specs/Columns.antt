@@ -20,6 +20,7 @@ pub record Column (xs : List ℕ) (sum top : ℕ) : Type 0 where
   pub adds-up : sumOf xs ≡ sum
   pub largest-is : largest xs ≡ top
 
+-- what the entries of each table add up to, and the largest
 abbrev pub tableSum : Curve → ℕ
 tableSum XBar = 1068654694895950
 tableSum YBar = 1068569171011719
@@ -38,6 +39,7 @@ tableTop YBar10 = 10000000000000
 tableTop ZBar10 = 20273000000000
 tableTop VPrime = 10000000000000
 
+-- the same of the illuminants
 abbrev pub powersSum : Illuminant → ℕ
 powersSum A = 6007637200
 powersSum D65 = 3918769960

@@ -1,6 +1,6 @@
 -- What a curve weighs, and an illuminant gives, at each place.
 use mathlib.Core.List.{List}
-use Prim.Native.Nat.{ℕ}
+use Prim.Native.Nat.{ℕ, _*_}
 use Rattle.mixing.specs.Sum.{entryOf}
 use Rattle.tables.specs.Tables.{xBar, yBar, zBar, xBar10, yBar10, zBar10, vPrime, illuminantA, illuminantD65}
 use Rattle.tables.specs.declared.Curve.{Curve}
@@ -30,3 +30,7 @@ weightOf c k = entryOf (table c) k
 -- that of an illuminant
 abbrev pub powerOf : Illuminant → ℕ → ℕ
 powerOf i k = entryOf (powers i) k
+
+-- illuminant times curve at each nanometre
+abbrev pub litBy : Illuminant → Curve → ℕ → ℕ
+litBy i c k = powerOf i k * weightOf c k

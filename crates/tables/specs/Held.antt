@@ -48,7 +48,7 @@ abbrev pub valueOf : Units → List ℕ → ℕ → ℕ
 valueOf u xs k = unitAt u k * entryOf xs k
 
 -- the ends are in order, and none is past the row's
-pub record InOrder (u : Units) : Type 0 where
+pub record EndsInOrder (u : Units) : Type 0 where
   pub first : u .first .end ≤ u .second .end
   pub second : u .second .end ≤ u .third .end
   pub third : u .third .end ≤ 471
@@ -60,6 +60,6 @@ pub record Counts (xs : List ℕ) : Type 0 where
 
 -- what a row can be summed by
 pub record Held (u : Units) (xs : List ℕ) : Type 0 where
-  pub in-order : InOrder u
+  pub in-order : EndsInOrder u
   pub counts : Counts xs
   pub full : total 471 (valueOf u xs) ≤ 2000000000000000

@@ -11,7 +11,7 @@ use Rattle.record.specs.declared.Header.{Header}
 use Rattle.record.specs.declared.RecordRead.the-variants as read
 use Rattle.record.specs.Leaf.{restCheck}
 use Rattle.record.proofs.Refusals.{header-fine}
-use Rattle.record.proofs.Reading.{header-refused, header-passed, answer-refused, answer-read}
+use Rattle.record.proofs.Reading.{header-refused, rest-left, answer-refused, answer-read}
 use borrow.Author.Needs.{needs}
 use Rattle.record.proofs.read_record.Statement.{statement}
 use Rattle.record.proofs.read_record.Tie as tie
@@ -47,7 +47,7 @@ body-read c = c .before .before
 checked : (c : tie.After-read-body) → readCheck (bytes (heading c)) (length (row (heading c))) ≡ c .read-body .result
 checked c =
     let answer = heading c in
-    header-passed (bytes answer) (length (row answer)) (said answer .0)
+    rest-left (bytes answer) (length (row answer)) (said answer .0)
     ∙ ap (λ (n : ℕ). restCheck n (bytes answer) (length (row answer))) (sym (count answer))
     ∙ sym (c .read-body .ensures .0)
 

@@ -1,4 +1,4 @@
--- A refusal of the spectrum is the answer; else the rest answers.
+-- A refusal of the spectrum is the answer; of an accepted one, write_accepted's is.
 use mathlib.Core.Path.{sym, _∙_}
 use borrow.Author.Needs.{needs}
 use Rattle.record.proofs.write_record.Statement.{statement}

@@ -66,19 +66,10 @@ add-sum : tie.Need-add-sum Inv-loop μ-loop
 add-sum c = omega (arith, sum-fits (c .before .before))
 
 add-k : tie.Need-add-k Inv-loop μ-loop
-add-k c = let inside = c .before .before .before .before .pre .0 .inside in omega arith
-
-loop-less : tie.Need-loop-less Inv-loop μ-loop
-loop-less c = omega arith
+add-k c = let inside = begun (c .before .before) .pre .0 .inside in omega arith
 
 loop-again : tie.Need-loop-again Inv-loop μ-loop
 loop-again c = (omega arith, omega arith, sum-next (c .before .before))
-
-joined-requires : tie.Need-joined-requires Inv-loop μ-loop
-joined-requires c κs = tt
-
-short-times-plus-requires : tie.Need-short-times-plus-requires Inv-loop μ-loop
-short-times-plus-requires c κs = tt
 
 returns : tie.Need-returns Inv-loop μ-loop
 returns c =
@@ -108,8 +99,8 @@ with-stretch-spec =
     mul-sum-3
     add-sum
     add-k
-    loop-less
+    (λ c. omega arith)
     loop-again
-    joined-requires
-    short-times-plus-requires
+    (λ c κs. tt)
+    (λ c κs. tt)
     returns)

@@ -56,12 +56,6 @@ product : (c : tie.After-times-plus Inv-loop μ-loop) → long (c .times-plus .r
 unfolding short
 product c = c .times-plus .ensures ∙ (add-zero _ ∙ mul-comm _ _)
 
-whole-requires : tie.Need-whole-requires Inv-loop μ-loop
-whole-requires c κs = tt
-
-at-most-requires : tie.Need-at-most-requires Inv-loop μ-loop
-at-most-requires c κs = tt
-
 returns : tie.Need-returns Inv-loop μ-loop
 unfolding long
 returns c =
@@ -70,24 +64,12 @@ returns c =
     let nought : long (divisor .result) ≤ 0 = leb-true _ _ (sym (c .before .at-most .ensures) ∙ c .if1 .taken) in
     sym (none (long (start .args .n)) (short (start .args .d)) 4294967296 (omega (arith, divisor .ensures)))
 
-shifted-requires : tie.Need-shifted-requires Inv-loop μ-loop
-shifted-requires c κs = tt
-
-at-most-requires-2 : tie.Need-at-most-requires-2 Inv-loop μ-loop
-at-most-requires-2 c κs = tt
-
 returns-2 : tie.Need-returns-2 Inv-loop μ-loop
 returns-2 c =
     let above = c .before .before .before in
     let start = begin above in
     let past : long (c .before .before .shifted .result) ≤ long (start .args .n) = leb-true _ _ (sym (c .before .at-most2 .ensures) ∙ c .if2 .taken) in
     sym (over (long (start .args .n)) (short (start .args .d)) 4294967296 (divisor-some above) (omega (arith, c .before .before .shifted .ensures)))
-
-loop-holds : tie.Need-loop-holds Inv-loop μ-loop
-loop-holds c = omega arith
-
-at-most-requires-3 : tie.Need-at-most-requires-3 Inv-loop μ-loop
-at-most-requires-3 c κs = tt
 
 estimate-requires : tie.Need-estimate-requires Inv-loop μ-loop
 estimate-requires c κs = (divisor-some (divisible (c .before .before)), fits c)
@@ -98,9 +80,6 @@ add-q c =
     let part : c .estimate .result * d s ≤ long (s .loop .rest) = c .estimate .ensures .1 in
     let sum : s .loop .q + c .estimate .result < 4294967296 = lt-of-mul-lt-mul-right (d s) (omega (arith, under s, s .loop .inv)) in
     omega arith
-
-times-plus-requires : tie.Need-times-plus-requires Inv-loop μ-loop
-times-plus-requires c κs = tt
 
 minus-requires : tie.Need-minus-requires Inv-loop μ-loop
 minus-requires c κs = omega (arith, product c, c .before .estimate .ensures .1)
@@ -127,18 +106,18 @@ quotient-spec =
     (tie.spec
     Inv-loop
     μ-loop
-    whole-requires
-    at-most-requires
+    (λ c κs. tt)
+    (λ c κs. tt)
     returns
-    shifted-requires
-    at-most-requires-2
+    (λ c κs. tt)
+    (λ c κs. tt)
     returns-2
-    loop-holds
-    at-most-requires-3
+    (λ c. omega arith)
+    (λ c κs. tt)
     estimate-requires
     (λ c. search needs)
     add-q
-    times-plus-requires
+    (λ c κs. tt)
     minus-requires
     loop-less
     loop-again

@@ -1,4 +1,4 @@
--- Each promise is a law of panels.
+-- No sum is five times the white one, a full white panel's Y sum is s · 10,000 white sums, and sums are linear in the reflectances.
 use Rattle.light_promises.proofs.Given.{given, order}
 use Rattle.light_promises.proofs.Full.{white}
 use Rattle.light_promises.proofs.panels.promise_panels.Statement.{statement}

@@ -1,11 +1,13 @@
--- The loop's invariant: k is at most the count, and s is a state.
+-- The loop's invariant: k is at most the count, s is a state, and the row keeps its length.
+use mathlib.Core.Path.{_≡_}
 use Prim.Native.Nat.{_≤_, _<_, _-_}
+use lib.ListN.{length}
 use borrow.Author.Needs.{needs}
 use Rattle.many.proofs.made.fill.Statement.{statement}
 use Rattle.many.proofs.made.fill.Tie as tie
 
 abbrev Inv-loop : tie.InvT-loop
-Inv-loop mode state count samples₀ s₀ k₀ samples s k = (k ≤ count) × (s < 2147483647)
+Inv-loop mode state count samples₀ s₀ k₀ samples s k = (k ≤ count) × (s < 2147483647) × (length samples ≡ 532)
 
 abbrev μ-loop : tie.MeasureT-loop
 μ-loop mode state count samples₀ s₀ k₀ samples s k = count - k

@@ -18,20 +18,8 @@ abbrev μ-loop : tie.MeasureT-loop
 loop-holds : tie.Need-loop-holds Inv-loop μ-loop
 loop-holds c = (omega arith, record { long = c .pre .1; filled = λ q h. absurd (omega arith) })
 
-shared-slice-read-wide : tie.Need-shared-slice-read-wide Inv-loop μ-loop
-shared-slice-read-wide c = omega arith
-
 cast-wide : tie.Need-cast-wide Inv-loop μ-loop
 cast-wide c = omega (arith, c .shared-slice-known .given (c .before .before .loop .k))
-
-element-write-wide : tie.Need-element-write-wide Inv-loop μ-loop
-element-write-wide c = omega arith
-
-add-k : tie.Need-add-k Inv-loop μ-loop
-add-k c = omega arith
-
-loop-less : tie.Need-loop-less Inv-loop μ-loop
-loop-less c = omega arith
 
 loop-again : tie.Need-loop-again Inv-loop μ-loop
 loop-again c =
@@ -59,11 +47,11 @@ widen-spec =
     μ-loop
     loop-holds
     (λ c. search needs)
-    shared-slice-read-wide
+    (λ c. omega arith)
     cast-wide
     (λ c. search needs)
-    element-write-wide
-    add-k
-    loop-less
+    (λ c. omega arith)
+    (λ c. omega arith)
+    (λ c. omega arith)
     loop-again
     returns)

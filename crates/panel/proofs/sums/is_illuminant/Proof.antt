@@ -1,4 +1,4 @@
--- Two tests.
+-- The two numbers are those of isIlluminant.
 use borrow.Author.Tests.{ne-eqb}
 use Rattle.panel.proofs.sums.is_illuminant.Statement.{statement}
 use Rattle.panel.proofs.sums.is_illuminant.Tie as tie

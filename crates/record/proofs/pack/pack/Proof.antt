@@ -38,38 +38,11 @@ loop-holds c =
       kept = refl;
     }
 
-add-loop : tie.Need-add-loop Inv-loop μ-loop
-add-loop c = omega arith
-
-mul-put-pair : tie.Need-mul-put-pair Inv-loop μ-loop
-mul-put-pair c = omega arith
-
-shared-slice-read-put-pair : tie.Need-shared-slice-read-put-pair Inv-loop μ-loop
-shared-slice-read-put-pair c = omega arith
-
-add-put-pair : tie.Need-add-put-pair Inv-loop μ-loop
-add-put-pair c = omega arith
-
-mul-put-pair-2 : tie.Need-mul-put-pair-2 Inv-loop μ-loop
-mul-put-pair-2 c = omega arith
-
-shared-slice-read-put-pair-2 : tie.Need-shared-slice-read-put-pair-2 Inv-loop μ-loop
-shared-slice-read-put-pair-2 c = omega arith
-
 put-pair-requires : tie.Need-put-pair-requires Inv-loop μ-loop
 put-pair-requires c κs =
     let xs = begin (turned c) .pre .0 in
     let k = turned c .loop .k in
     (omega arith, omega (arith, xs k), omega (arith, xs (k + 1)))
-
-add-k : tie.Need-add-k Inv-loop μ-loop
-add-k c = omega arith
-
-add-at : tie.Need-add-at Inv-loop μ-loop
-add-at c = omega arith
-
-loop-less : tie.Need-loop-less Inv-loop μ-loop
-loop-less c = omega arith
 
 loop-again : tie.Need-loop-again Inv-loop μ-loop
 loop-again c =
@@ -84,17 +57,8 @@ loop-again c =
       kept = put .put-pair .kept .0 ∙ loop .loop .inv .kept;
     }
 
-mul-put-three : tie.Need-mul-put-three Inv-loop μ-loop
-mul-put-three c = omega arith
-
-shared-slice-read-put-three : tie.Need-shared-slice-read-put-three Inv-loop μ-loop
-shared-slice-read-put-three c = omega arith
-
 mul-put-three-2 : tie.Need-mul-put-three-2 Inv-loop μ-loop
 mul-put-three-2 c = omega (arith, begin (ended c) .pre .0 (ended c .loop .k))
-
-put-three-requires : tie.Need-put-three-requires Inv-loop μ-loop
-put-three-requires c κs = omega arith
 
 same-length : tie.Need-same-length Inv-loop μ-loop
 same-length c = let put = c .before .before in put .put-three .kept .0 ∙ ended (put .before) .loop .inv .kept
@@ -122,21 +86,21 @@ pack-spec =
     Inv-loop
     μ-loop
     loop-holds
-    add-loop
-    mul-put-pair
-    shared-slice-read-put-pair
-    add-put-pair
-    mul-put-pair-2
-    shared-slice-read-put-pair-2
+    (λ c. omega arith)
+    (λ c. omega arith)
+    (λ c. omega arith)
+    (λ c. omega arith)
+    (λ c. omega arith)
+    (λ c. omega arith)
     put-pair-requires
-    add-k
-    add-at
-    loop-less
+    (λ c. omega arith)
+    (λ c. omega arith)
+    (λ c. omega arith)
     loop-again
-    mul-put-three
-    shared-slice-read-put-three
+    (λ c. omega arith)
+    (λ c. omega arith)
     mul-put-three-2
-    put-three-requires
+    (λ c κs. omega arith)
     same-length
     returns
     same-length-2

@@ -4,7 +4,7 @@ use mathlib.Core.Logic.{⊎-elim}
 use Prim.Native.Nat.{ℕ}
 use lib.ListN.{length}
 use Rattle.grid.proofs.Accepted.{step-cases}
-use Rattle.spectrum.specs.Line.{Part}
+use Rattle.spectrum.specs.Lay.{Part}
 use Rattle.spectrum.proofs.line.lay.Statement.{statement}
 use Rattle.spectrum.proofs.line.lay.Tie as tie
 

@@ -20,9 +20,6 @@ abbrev μ-loop : tie.MeasureT-loop
 abbrev begin : tie.After-place-of Inv-loop μ-loop → tie.Start Inv-loop μ-loop
 begin c = c .before .before
 
-place-of-requires : tie.Need-place-of-requires Inv-loop μ-loop
-place-of-requires c κs = tt
-
 loop-holds : tie.Need-loop-holds Inv-loop μ-loop
 loop-holds c =
     let s = begin c in (
@@ -30,39 +27,19 @@ loop-holds c =
       rw (add-zero, c .place-of .ensures) (lay-none (s .args .first) 1 (s .args .part .now) (s .args .row .now) (s .pre .0 .start-high) (s .pre .1)),
     )
 
-shared-slice-read-wide : tie.Need-shared-slice-read-wide Inv-loop μ-loop
-shared-slice-read-wide c = omega arith
-
-wide-requires : tie.Need-wide-requires Inv-loop μ-loop
-wide-requires c κs = tt
-
-add-row : tie.Need-add-row Inv-loop μ-loop
-add-row c = omega arith
-
-mul-row : tie.Need-mul-row Inv-loop μ-loop
-mul-row c = omega arith
-
-element-write-row : tie.Need-element-write-row Inv-loop μ-loop
-element-write-row c = omega arith
-
-add-i : tie.Need-add-i Inv-loop μ-loop
-add-i c = omega arith
-
-loop-less : tie.Need-loop-less Inv-loop μ-loop
-loop-less c = omega arith
-
 loop-again : tie.Need-loop-again Inv-loop μ-loop
 loop-again c =
-    let s = begin (c .before .before .before .before) in
-    let i = c .before .before .before .loop .i in
+    let turn = c .before .before .before in
+    let s = begin (turn .before) in
+    let i = turn .loop .i in
     let xs = s .args .part .now in
-    let place = c .before .before .before .before .place-of .result in
+    let place = turn .before .place-of .result in
     let here : c .wide .result ≡ T (s .args .first) 1 xs (360 + (place + i)) =
     (let v : c .wide .result ≡ (1 - 0) * getD xs i 0 + 0 * getD xs (i + 1) 0 = omega arith in
     v ∙ walk-at (s .args .first) 1 xs i 0 (place + i) (omega arith) (omega arith) (omega arith)) in (
       omega arith,
       rw (sym (add-assoc place i 1))
-          (lay-more (s .args .first) 1 xs (c .before .before .before .loop .row) (place + i) (c .wide .result) (c .before .before .before .loop .inv .1) (omega arith) here),
+          (lay-more (s .args .first) 1 xs (turn .loop .row) (place + i) (c .wide .result) (turn .loop .inv .1) (omega arith) here),
     )
 
 returns : tie.Need-returns Inv-loop μ-loop
@@ -77,15 +54,15 @@ copy-spec =
     (tie.spec
     Inv-loop
     μ-loop
-    place-of-requires
+    (λ c κs. tt)
     loop-holds
     (λ c. search needs)
-    shared-slice-read-wide
-    wide-requires
-    add-row
-    mul-row
-    element-write-row
-    add-i
-    loop-less
+    (λ c. omega arith)
+    (λ c κs. tt)
+    (λ c. omega arith)
+    (λ c. omega arith)
+    (λ c. omega arith)
+    (λ c. omega arith)
+    (λ c. omega arith)
     loop-again
     returns)

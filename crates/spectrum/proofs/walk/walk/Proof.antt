@@ -37,23 +37,8 @@ few s =
     mul-le-mul-right (length (s .args .part .now) - 1) (p .step-low) in
     omega arith
 
-sub-last : tie.Need-sub-last Inv-loop μ-loop
-sub-last c = omega arith
-
-place-of-requires : tie.Need-place-of-requires Inv-loop μ-loop
-place-of-requires c κs = tt
-
-cast-stretch : tie.Need-cast-stretch Inv-loop μ-loop
-cast-stretch c = omega arith
-
-add-stretch : tie.Need-add-stretch Inv-loop μ-loop
-add-stretch c = omega arith
-
-sub-stretch : tie.Need-sub-stretch Inv-loop μ-loop
-sub-stretch c = omega arith
-
-stretch-requires : tie.Need-stretch-requires Inv-loop μ-loop
-stretch-requires c κs =
+lay-between-requires : tie.Need-lay-between-requires Inv-loop μ-loop
+lay-between-requires c κs =
     let placed = c .before in
     let s = begin placed in
     let t = s .args in
@@ -63,10 +48,10 @@ stretch-requires c κs =
     (p, omega arith, omega arith, omega arith, rw from (lay-none (t .first) (t .step) (t .part .now) (t .row .now) (p .start-high) (s .pre .1)))
 
 loop-holds : tie.Need-loop-holds Inv-loop μ-loop
-loop-holds c = let many = enough (begin (c .before .before)) in (omega arith, omega arith, c .stretch .ensures)
+loop-holds c = let many = enough (begin (c .before .before)) in (omega arith, omega arith, c .lay-between .ensures)
 
-stretch-requires-2 : tie.Need-stretch-requires-2 Inv-loop μ-loop
-stretch-requires-2 c κs =
+lay-between-requires-2 : tie.Need-lay-between-requires-2 Inv-loop μ-loop
+lay-between-requires-2 c κs =
     let l = c .before .before .loop in
     let s = at-loop (c .before .before) in
     let p = s .pre .0 in
@@ -74,44 +59,11 @@ stretch-requires-2 c κs =
     let from : s .args .first + s .args .step * l .i + 0 - 360 ≡ s .args .first + s .args .step * l .i - 360 = omega arith in
     (p, omega arith, omega arith, omega arith, rw from (l .inv .2))
 
-add-i : tie.Need-add-i Inv-loop μ-loop
-add-i c = omega arith
-
-loop-less : tie.Need-loop-less Inv-loop μ-loop
-loop-less c = omega arith
-
 loop-again : tie.Need-loop-again Inv-loop μ-loop
-loop-again c = (omega arith, omega arith, c .stretch2 .ensures)
+loop-again c = (omega arith, omega arith, c .lay-between2 .ensures)
 
 cast-place-of : tie.Need-cast-place-of Inv-loop μ-loop
 cast-place-of c = omega (arith, few (at-loop (c .before)))
-
-mul-place-of : tie.Need-mul-place-of Inv-loop μ-loop
-mul-place-of c = omega arith
-
-add-place-of : tie.Need-add-place-of Inv-loop μ-loop
-add-place-of c = omega arith
-
-place-of-requires-2 : tie.Need-place-of-requires-2 Inv-loop μ-loop
-place-of-requires-2 c κs = tt
-
-mul-wide : tie.Need-mul-wide Inv-loop μ-loop
-mul-wide c = omega arith
-
-shared-slice-read-wide : tie.Need-shared-slice-read-wide Inv-loop μ-loop
-shared-slice-read-wide c = omega arith
-
-wide-requires : tie.Need-wide-requires Inv-loop μ-loop
-wide-requires c κs = tt
-
-between-requires : tie.Need-between-requires Inv-loop μ-loop
-between-requires c κs = omega arith
-
-mul-row : tie.Need-mul-row Inv-loop μ-loop
-mul-row c = omega arith
-
-element-write-row : tie.Need-element-write-row Inv-loop μ-loop
-element-write-row c = omega arith
 
 returns : tie.Need-returns Inv-loop μ-loop
 returns c =
@@ -139,25 +91,25 @@ walk-spec =
     (tie.spec
     Inv-loop
     μ-loop
-    sub-last
-    place-of-requires
-    cast-stretch
-    add-stretch
-    sub-stretch
-    stretch-requires
+    (λ c. omega arith)
+    (λ c κs. tt)
+    (λ c. omega arith)
+    (λ c. omega arith)
+    (λ c. omega arith)
+    lay-between-requires
     loop-holds
-    stretch-requires-2
-    add-i
-    loop-less
+    lay-between-requires-2
+    (λ c. omega arith)
+    (λ c. omega arith)
     loop-again
     cast-place-of
-    mul-place-of
-    add-place-of
-    place-of-requires-2
-    mul-wide
-    shared-slice-read-wide
-    wide-requires
-    between-requires
-    mul-row
-    element-write-row
+    (λ c. omega arith)
+    (λ c. omega arith)
+    (λ c κs. tt)
+    (λ c. omega arith)
+    (λ c. omega arith)
+    (λ c κs. tt)
+    (λ c κs. omega arith)
+    (λ c. omega arith)
+    (λ c. omega arith)
     returns)

@@ -7,8 +7,8 @@ use borrow.Author.Needs.{needs}
 use lib.ListN.{length, take, drop, getD, set, length-set}
 use lib.Seq.{take-length}
 use Rattle.record.proofs.Store.{front-more}
-use Rattle.record.proofs.body.copy.Statement.{statement}
-use Rattle.record.proofs.body.copy.Tie as tie
+use Rattle.record.proofs.body.fill_row.Statement.{statement}
+use Rattle.record.proofs.body.fill_row.Tie as tie
 
 abbrev Inv-loop : tie.InvT-loop
 Inv-loop row samples₀ k₀ k-end samples k = (k ≤ length row) × (samples ≡ take k row ++ drop k samples₀) × (length samples ≡ length samples₀)
@@ -18,18 +18,6 @@ abbrev μ-loop : tie.MeasureT-loop
 
 loop-holds : tie.Need-loop-holds Inv-loop μ-loop
 loop-holds c = (omega arith, refl, refl)
-
-shared-slice-read-samples : tie.Need-shared-slice-read-samples Inv-loop μ-loop
-shared-slice-read-samples c = omega arith
-
-slice-write-samples : tie.Need-slice-write-samples Inv-loop μ-loop
-slice-write-samples c = omega arith
-
-add-k : tie.Need-add-k Inv-loop μ-loop
-add-k c = omega arith
-
-loop-less : tie.Need-loop-less Inv-loop μ-loop
-loop-less c = omega arith
 
 loop-again : tie.Need-loop-again Inv-loop μ-loop
 loop-again c =
@@ -50,19 +38,19 @@ returns c =
     let e : c .before .loop .k ≡ length row = omega arith in
     rw e at (c .before .loop .inv .1) ∙ ap (λ (s : List ℕ). s ++ drop (length row) (c .before .before .args .samples .now)) (take-length row)
 
-pub copy-spec : {M : Type 1} → statement M
-copy-spec =
+pub fill-row-spec : {M : Type 1} → statement M
+fill-row-spec =
     tie.close
     (tie.spec
     Inv-loop
     μ-loop
     loop-holds
     (λ c. search needs)
-    shared-slice-read-samples
+    (λ c. omega arith)
     (λ c. search needs)
-    slice-write-samples
-    add-k
-    loop-less
+    (λ c. omega arith)
+    (λ c. omega arith)
+    (λ c. omega arith)
     loop-again
     same-length
     returns)

@@ -7,8 +7,8 @@ use lib.ListN.{length}
 use Rattle.spectrum.specs.Line.{T}
 use Rattle.spectrum.specs.Lay.{LaidTo}
 use Rattle.spectrum.proofs.Lay.{walk-at, lay-more}
-use Rattle.spectrum.proofs.walk.stretch.Statement.{statement}
-use Rattle.spectrum.proofs.walk.stretch.Tie as tie
+use Rattle.spectrum.proofs.walk.lay_between.Statement.{statement}
+use Rattle.spectrum.proofs.walk.lay_between.Tie as tie
 
 abbrev Inv-loop : tie.InvT-loop
 Inv-loop first step part i from row₀ here next sample d₀ row d =
@@ -27,27 +27,6 @@ up s =
     mul-le-mul-left (s .args .step) (omega arith) in
     omega arith
 
-mul-wide : tie.Need-mul-wide Inv-loop μ-loop
-mul-wide c = omega arith
-
-shared-slice-read-wide : tie.Need-shared-slice-read-wide Inv-loop μ-loop
-shared-slice-read-wide c = omega arith
-
-wide-requires : tie.Need-wide-requires Inv-loop μ-loop
-wide-requires c κs = tt
-
-add-wide : tie.Need-add-wide Inv-loop μ-loop
-add-wide c = omega arith
-
-mul-wide-2 : tie.Need-mul-wide-2 Inv-loop μ-loop
-mul-wide-2 c = omega arith
-
-shared-slice-read-wide-2 : tie.Need-shared-slice-read-wide-2 Inv-loop μ-loop
-shared-slice-read-wide-2 c = omega arith
-
-wide-requires-2 : tie.Need-wide-requires-2 Inv-loop μ-loop
-wide-requires-2 c κs = tt
-
 cast-sample : tie.Need-cast-sample Inv-loop μ-loop
 cast-sample c =
     let t = begin c .args in
@@ -63,14 +42,8 @@ add-sample c = omega (arith, up (begin c))
 loop-holds : tie.Need-loop-holds Inv-loop μ-loop
 loop-holds c = (omega arith, omega arith, begin c .pre .4)
 
-between-requires : tie.Need-between-requires Inv-loop μ-loop
-between-requires c κs = omega arith
-
 add-row : tie.Need-add-row Inv-loop μ-loop
 add-row c = omega (arith, up (begin (c .before .before .before)))
-
-sub-row : tie.Need-sub-row Inv-loop μ-loop
-sub-row c = omega arith
 
 cast-row : tie.Need-cast-row Inv-loop μ-loop
 cast-row c = omega (arith, up (begin (c .before .before .before)))
@@ -80,12 +53,6 @@ mul-row c = omega (arith, up (begin (c .before .before .before)))
 
 element-write-row : tie.Need-element-write-row Inv-loop μ-loop
 element-write-row c = omega (arith, up (begin (c .before .before .before)))
-
-add-d : tie.Need-add-d Inv-loop μ-loop
-add-d c = omega arith
-
-loop-less : tie.Need-loop-less Inv-loop μ-loop
-loop-less c = omega arith
 
 loop-again : tie.Need-loop-again Inv-loop μ-loop
 loop-again c =
@@ -110,30 +77,30 @@ returns c =
     let end : t .first + t .step * (t .i + 1) - 360 ≡ t .first + t .step * t .i + l .d - 360 = omega arith in
     rw end (l .inv .2)
 
-pub stretch-spec : {M : Type 1} → statement M
-stretch-spec =
+pub lay-between-spec : {M : Type 1} → statement M
+lay-between-spec =
     tie.close
     (tie.spec
     Inv-loop
     μ-loop
-    mul-wide
-    shared-slice-read-wide
-    wide-requires
-    add-wide
-    mul-wide-2
-    shared-slice-read-wide-2
-    wide-requires-2
+    (λ c. omega arith)
+    (λ c. omega arith)
+    (λ c κs. tt)
+    (λ c. omega arith)
+    (λ c. omega arith)
+    (λ c. omega arith)
+    (λ c κs. tt)
     cast-sample
     mul-sample
     add-sample
     loop-holds
-    between-requires
+    (λ c κs. omega arith)
     add-row
-    sub-row
+    (λ c. omega arith)
     cast-row
     mul-row
     element-write-row
-    add-d
-    loop-less
+    (λ c. omega arith)
+    (λ c. omega arith)
     loop-again
     returns)
