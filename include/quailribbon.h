@@ -32,7 +32,7 @@ enum {
     QR_OBSERVER = 6,     /* neither 2 nor 10 */
     QR_ILLUMINANT = 7,   /* neither 1 (A) nor 2 (D65) */
     QR_REFLECTANCE = 8,  /* a reflectance above 10,000 */
-    QR_DARK = 9,         /* x and y where X + Y + Z is 0 */
+    QR_DARK = 9,         /* x and y where the three exact sums are 0 */
     QR_EDITION = 10,     /* the record's edition isn't 1 */
     QR_RESERVED = 11,    /* the record's reserved bit is 1 */
     QR_LENGTH = 12,      /* the record isn't as long as its header calls for */

@@ -114,7 +114,7 @@ def refuse_overrange(*readings):
     return None
 
 
-# The rules' sums and its rounding.
+# The rules' sums and their rounding.
 
 
 def nearest(numerator, denominator):

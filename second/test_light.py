@@ -1,4 +1,4 @@
-"""Tests of the second implementation: the rules' bench figures, its refusals and their order.
+"""Tests of the second implementation: the rules' bench figures, their refusals and the order of these.
 
     python3 -m unittest discover -s second
 """

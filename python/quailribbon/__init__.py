@@ -126,7 +126,7 @@ class ChartPoint(NamedTuple):
 
 
 class Figures(NamedTuple):
-    """The report's figures; `xy` is None where X + Y + Z is 0."""
+    """The report's figures; `xy` is None where the three exact sums are 0."""
 
     photopic: int
     scotopic: int
@@ -202,13 +202,13 @@ def xyz(observer: SupportsIndex, start: SupportsIndex, step: SupportsIndex, samp
 
 
 def xy(observer: SupportsIndex, start: SupportsIndex, step: SupportsIndex, samples: Row) -> Xy:
-    """x and y in hundred-thousandths, for observer 2 or 10; `Refused` with number 9 where X + Y + Z is 0."""
+    """x and y in hundred-thousandths, for observer 2 or 10; `Refused` with number 9 where its three sums are 0."""
     answer = _seen_light(_c.xy, observer, start, step, samples)
     return Xy(answer.x, answer.y)
 
 
 def chart(observer: SupportsIndex, start: SupportsIndex, step: SupportsIndex, samples: Row) -> ChartPoint:
-    """The chart's point, for observer 2 or 10; `Refused` with number 9 where X + Y + Z is 0."""
+    """The chart's point, for observer 2 or 10; `Refused` with number 9 where its three sums are 0."""
     answer = _seen_light(_c.chart, observer, start, step, samples)
     return ChartPoint(answer.x, answer.y)
 
@@ -242,7 +242,7 @@ def _colour(answer):
 
 
 def figures(start: SupportsIndex, step: SupportsIndex, samples: Row) -> Figures:
-    """The report's figures at observer 2. Where X + Y + Z is 0 they are given all the same, and `xy` is None."""
+    """The report's figures at observer 2. Where the three exact sums are 0 they are given all the same, and `xy` is None."""
     answer = _light(_c.figures, start, step, samples)
     return Figures(answer.photopic, answer.scotopic, answer.X, answer.Y, answer.Z, _colour(answer))
 

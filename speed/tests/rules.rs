@@ -1,4 +1,4 @@
-//! The rules' bench figures P1 to P10 and its report, of the straightforward implementation.
+//! The rules' bench figures P1 to P10 and their report, of the straightforward implementation.
 
 use quailribbon_bench::straight::*;
 
