@@ -26,7 +26,7 @@ saidXy (XyAnswer.Refused r) = refusedWith r
 abbrev pub colourValues : XyAnswer → List ℕ
 colourValues xy = saidXy xy .number ∷ value (saidXy xy) 0 ∷ value (saidXy xy) 1 ∷ []
 
--- dark is refused 9, as x and y are, and has no values
+-- dark is refused DARK, as x and y are, and has no values
 abbrev pub saidOnChart : OnChart → Said
 saidOnChart (OnChart.Point p) = given [] (p .x ∷ p .y ∷ [])
 saidOnChart OnChart.Dark = refusedWith (refusal DARK 0)

@@ -14,7 +14,7 @@ pub enum SumsAnswer {
 }
 
 // x and y in hundred-thousandths.
-pub fn xy_of(answer: SumsAnswer) -> XyAnswer
+pub fn xy_summed(answer: SumsAnswer) -> XyAnswer
     requires { ⌜ ShortTotal answer ⌝ }
     ensures { λ r. ⌜ r ≡ xySummed answer ⌝ }
 {
@@ -25,7 +25,7 @@ pub fn xy_of(answer: SumsAnswer) -> XyAnswer
 }
 
 // The chart's point, or dark.
-pub fn chart_of(answer: SumsAnswer) -> ChartAnswer
+pub fn chart_summed(answer: SumsAnswer) -> ChartAnswer
     requires { ⌜ ShortTotal answer ⌝ }
     ensures { λ r. ⌜ r ≡ chartSummed answer ⌝ }
 {

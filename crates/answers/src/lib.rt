@@ -1,6 +1,6 @@
 // The answers of readings and panels, each a value or a refusal.
 mod chart;
-pub mod summed;
+pub mod from_sums;
 pub mod work;
 
 use grid::Refusal;

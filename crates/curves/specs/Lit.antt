@@ -1,4 +1,4 @@
--- The sums of a row under an illuminant.
+-- The sums of a row under an illuminant: no promise to a caller rests on the reading of this.
 use mathlib.Core.List.{List}
 use Prim.Native.Nat.{ℕ}
 use Rattle.mixing.specs.Sum.{weighted, entryOf}

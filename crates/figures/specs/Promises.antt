@@ -1,10 +1,11 @@
 -- What is promised of the bench figures: each row of the table holds, and each slip gives another number at one of them.
 use mathlib.Core.Path.{_≡_}
 use mathlib.Core.List.{List, [], _∷_}
+use Prim.Native.Nat.{ℕ}
 use Rattle.grid.specs.Said.{value}
-use Rattle.figures.specs.Asked.{answerOf, photopic, xyz, xy}
+use Rattle.figures.specs.Asked.{Asked, answerOf, photopic, xyz, xy}
 use Rattle.figures.specs.Rows.{Row, rows, lone, at460}
-use Rattle.figures.specs.Slips.{xFromRounded, eachRounded, atSamples, dividedEarly, zFilled, Apart}
+use Rattle.figures.specs.Slips.{xFromRounded, eachRounded, atSamples, dividedEarly, zFilled}
 
 -- each row is given as it says
 abbrev pub Holds : List Row → Type 0
@@ -14,6 +15,12 @@ Holds (r ∷ rs) = (answerOf (r .asked) ≡ r .answer) × Holds rs
 -- the one claim of the table
 abbrev pub Bench : Type 0
 Bench = Holds rows
+
+-- what the version gives is not value i of what was asked: the one is `slip`, the other `ours`
+pub record Apart (version slip : ℕ) (asked : Asked) (i ours : ℕ) : Type 0 where
+  pub gives : version ≡ slip
+  pub is : value (answerOf asked) i ≡ ours
+  pub not-ours : version ≡ value (answerOf asked) i → ⊥
 
 -- each slip, and a row where it gives another number than ours
 pub record Slips : Type 0 where

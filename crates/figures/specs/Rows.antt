@@ -1,9 +1,9 @@
--- The bench figures P1 to P10 with the rules' own numbers, and some of the project's own.
+-- The bench figures P1 to P10 with the rules' own numbers, and some of the project's own. Refusals have their numbers here too,
+-- so that the table holds the names to them.
 use mathlib.Core.List.{List, [], _∷_, _++_}
 use Prim.Native.Nat.{ℕ, _-_}
 use lib.ListN.{replicate}
 use Rattle.mixing.specs.Mixture.{mix}
-use Rattle.grid.specs.Refusals.{STEP, START, COUNT, SAMPLE, MESOPIC, OBSERVER, ILLUMINANT, REFLECTANCE, DARK}
 use Rattle.grid.specs.Said.{Said, given, refusedWith}
 use Rattle.grid.specs.Check.{refusal}
 use Rattle.figures.specs.Asked.{Asked, photopic, scotopic, photopic10, mesopic, xyz, xy, panelXyz, panelXy, panelFigures}
@@ -38,7 +38,7 @@ rows =
     ∷ gives (photopic10 380 1 (replicate 401 0)) (0 ∷ [])
     ∷ gives (mesopic 500 380 1 (replicate 401 0)) (0 ∷ [])
     ∷ gives (xyz 2 380 1 (replicate 401 0)) (0 ∷ 0 ∷ 0 ∷ [])
-    ∷ refuses (xy 2 380 1 (replicate 401 0)) DARK 0
+    ∷ refuses (xy 2 380 1 (replicate 401 0)) 9 0
     -- P2: 1,000,000 at 460
     ∷ gives (photopic 380 1 (at460 1000000)) (40980 ∷ [])
     ∷ gives (scotopic 380 1 (at460 1000000)) (963900 ∷ [])
@@ -51,7 +51,7 @@ rows =
     ∷ gives (mesopic 0 380 1 (at460 1000000)) (963336 ∷ [])
     ∷ gives (mesopic 500 380 1 (at460 1000000)) (305450 ∷ [])
     ∷ gives (mesopic 1000 380 1 (at460 1000000)) (40980 ∷ [])
-    ∷ refuses (mesopic 1001 380 1 (at460 1000000)) MESOPIC 0
+    ∷ refuses (mesopic 1001 380 1 (at460 1000000)) 5 0
     -- P5: step 5, the line reaches 456 and 464
     ∷ gives (photopic 380 5 (lone 81 16 1000000)) (205365 ∷ [])
     -- P6: 1,000,000 at 485
@@ -67,11 +67,11 @@ rows =
     ∷ gives (panelXyz 2 1 360 1 (replicate 471 10000)) (109850 ∷ 100000 ∷ 35585 ∷ [])
     ∷ gives (panelXyz 2 2 360 1 (replicate 471 10000)) (95047 ∷ 100000 ∷ 108883 ∷ [])
     -- P10: refusals
-    ∷ refuses (photopic 380 3 (replicate 401 0)) STEP 0
-    ∷ refuses (photopic 299 1 (replicate 401 0)) START 0
-    ∷ refuses (photopic 381 1 (replicate 401 0)) START 0
-    ∷ refuses (photopic 380 1 (replicate 400 0)) COUNT 0
-    ∷ refuses (photopic 380 1 (lone 401 7 1000001)) SAMPLE 7
+    ∷ refuses (photopic 380 3 (replicate 401 0)) 1 0
+    ∷ refuses (photopic 299 1 (replicate 401 0)) 2 0
+    ∷ refuses (photopic 381 1 (replicate 401 0)) 2 0
+    ∷ refuses (photopic 380 1 (replicate 400 0)) 3 0
+    ∷ refuses (photopic 380 1 (lone 401 7 1000001)) 4 7
     -- our own: a lone 1 at 460, whose X and Y round to 0
     ∷ gives (xyz 2 380 1 (at460 1)) (0 ∷ 0 ∷ 1 ∷ [])
     ∷ gives (xy 2 380 1 (at460 1)) (14396 ∷ 2970 ∷ [])
@@ -81,19 +81,19 @@ rows =
     ∷ gives (xyz 2 380 1 (lone 401 320 1000000)) (7758 ∷ 2802 ∷ 0 ∷ [])
     -- our own: lit at 359 nm alone, at step 1, which carries no weight
     ∷ gives (photopic 300 1 (lone 531 59 1000000)) (0 ∷ [])
-    ∷ refuses (xy 2 300 1 (lone 531 59 1000000)) DARK 0
+    ∷ refuses (xy 2 300 1 (lone 531 59 1000000)) 9 0
     -- our own: lit at 355 nm alone, at step 10, which pulls on the line that crosses 360
     ∷ gives (xyz 2 355 10 (lone 44 0 1000000)) (157 ∷ 5 ∷ 733 ∷ [])
     ∷ gives (xyz 10 355 10 (lone 44 0 1000000)) (0 ∷ 0 ∷ 1 ∷ [])
     -- our own: a full white panel for observer 10, and a panel's refusals
     ∷ gives (panelXyz 10 2 360 1 (replicate 471 10000)) (94811 ∷ 100000 ∷ 107305 ∷ [])
     ∷ gives (panelXy 2 2 360 1 (replicate 471 10000)) (31273 ∷ 32902 ∷ [])
-    ∷ refuses (panelXyz 3 3 360 1 (replicate 471 10000)) OBSERVER 0
-    ∷ refuses (panelXyz 2 3 360 1 (replicate 471 10000)) ILLUMINANT 0
-    ∷ refuses (panelXyz 2 1 360 1 (lone 471 470 10001)) REFLECTANCE 470
-    ∷ refuses (panelXy 2 1 360 1 (replicate 471 0)) DARK 0
+    ∷ refuses (panelXyz 3 3 360 1 (replicate 471 10000)) 6 0
+    ∷ refuses (panelXyz 2 3 360 1 (replicate 471 10000)) 7 0
+    ∷ refuses (panelXyz 2 1 360 1 (lone 471 470 10001)) 8 470
+    ∷ refuses (panelXy 2 1 360 1 (replicate 471 0)) 9 0
     -- our own: a panel's figures in one answer: white, dark and refused
     ∷ gives (panelFigures 2 2 360 1 (replicate 471 10000)) (95047 ∷ 100000 ∷ 108883 ∷ 0 ∷ 31273 ∷ 32902 ∷ [])
-    ∷ gives (panelFigures 2 1 360 1 (replicate 471 0)) (0 ∷ 0 ∷ 0 ∷ DARK ∷ 0 ∷ 0 ∷ [])
-    ∷ refuses (panelFigures 2 1 360 1 (lone 471 470 10001)) REFLECTANCE 470
+    ∷ gives (panelFigures 2 1 360 1 (replicate 471 0)) (0 ∷ 0 ∷ 0 ∷ 9 ∷ 0 ∷ 0 ∷ [])
+    ∷ refuses (panelFigures 2 1 360 1 (lone 471 470 10001)) 8 470
     ∷ []

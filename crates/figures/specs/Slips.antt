@@ -1,5 +1,4 @@
 -- Slips that this trade makes, each a version of its own.
-use mathlib.Core.Path.{_≡_}
 use mathlib.Core.List.{List, [], _∷_}
 use Prim.Native.Nat.{ℕ, zero, suc, _+_, _*_, _-_, _/_, _^_}
 use lib.ListN.{length, getD}
@@ -9,8 +8,6 @@ use Rattle.tables.specs.declared.Curve.the-variants.{YBar}
 use Rattle.tables.specs.Tables.{zBar}
 use Rattle.tables.specs.Curves.{weightOf}
 use Rattle.spectrum.specs.Line.{T}
-use Rattle.grid.specs.Said.{value}
-use Rattle.figures.specs.Asked.{Asked, answerOf}
 
 -- x from the rounded X, Y, Z
 abbrev pub xFromRounded : ℕ → ℕ → ℕ → ℕ
@@ -38,9 +35,3 @@ filledDown above (suc x ∷ xs) = suc x ∷ filledDown (suc x) xs
 -- Z by such a column
 abbrev pub zFilled : ℕ → ℕ → List ℕ → ℕ
 zFilled a s xs = nearest (683 * weighted 471 (entryOf (filledDown 0 zBar)) (λ k. T a s xs (360 + k))) (s * 10 ^ 16)
-
--- what the version gives is not value i of what was asked: the one is `slip`, the other `ours`
-pub record Apart (version slip : ℕ) (asked : Asked) (i ours : ℕ) : Type 0 where
-  pub gives : version ≡ slip
-  pub is : value (answerOf asked) i ≡ ours
-  pub not-ours : version ≡ value (answerOf asked) i → ⊥

@@ -10,6 +10,7 @@ use lib.ListN.{length, getD}
 use lib.Dec.{leb}
 use Rattle.grid.specs.declared.Check.the-variants.{Fine}
 use Rattle.grid.specs.Check.{isObserver, lightCheck}
+use Rattle.grid.specs.Refusals.{SAMPLE}
 use Rattle.grid.proofs.Limit.{within-fine}
 use Rattle.mixing.specs.Mixture.{mix, Linear}
 use Rattle.mixing.proofs.Mixture.{length-mix, getD-mix, linear-plus, linear-times}
@@ -27,7 +28,7 @@ use Rattle.light_promises.specs.Lights.{Mixable, OneUnit, InOrder, BothL
 pub mixture-accepted : (a s : ℕ) (xs ys : List ℕ) → Mixable a s xs ys → lightCheck a s (mix xs ys) ≡ Fine
 unfolding lightCheck
 mixture-accepted a s xs ys m =
-    rw (length-mix (length xs) xs ys refl (sym (m .one-grid)), grid-fine a s xs (m .first)) (within-fine 4 1000000 0 (mix xs ys) (m .within))
+    rw (length-mix (length xs) xs ys refl (sym (m .one-grid)), grid-fine a s xs (m .first)) (within-fine SAMPLE 1000000 0 (mix xs ys) (m .within))
 
 -- mixed the other way round, the samples are the same
 swapped : (a s : ℕ) (xs ys : List ℕ) → Mixable a s xs ys → Mixable a s ys xs

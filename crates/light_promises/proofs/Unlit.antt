@@ -6,7 +6,7 @@ use Prim.Native.Nat.{ℕ, zero, suc, _+_, _*_, _-_, _/_, _%_, _≤_, zero-le}
 use native.Mathlib.Nat.{mul-zero, add-zero}
 use borrow.Author.Tests.{le-leb}
 use lib.ListN.{getD, replicate, length, length-replicate}
-use Rattle.grid.specs.Refusals.{DARK}
+use Rattle.grid.specs.Refusals.{SAMPLE, DARK}
 use Rattle.grid.specs.declared.Check.the-variants.{Fine}
 use Rattle.grid.specs.Check.{refusal, isObserver, gridCheck, samplesCheck, lightCheck}
 use Rattle.grid.proofs.Limit.{within-fine}
@@ -36,7 +36,7 @@ getD-zeros (suc n) (suc i) = getD-zeros n i
 pub zeros-accepted : (a s n : ℕ) → gridCheck a s n ≡ Fine → lightCheck a s (replicate n 0) ≡ Fine
 unfolding lightCheck
 zeros-accepted a s n fine =
-    let samples : samplesCheck (replicate n 0) ≡ Fine = within-fine 4 1000000 0 (replicate n 0) (λ k. rw (getD-zeros n k) zero-le) in
+    let samples : samplesCheck (replicate n 0) ≡ Fine = within-fine SAMPLE 1000000 0 (replicate n 0) (λ k. rw (getD-zeros n k) zero-le) in
     rw (length-replicate {A = ℕ} n 0, fine) samples
 
 pub zeros : (c : Curve) (a s n : ℕ) → Unlit c a s (replicate n 0)

@@ -67,7 +67,7 @@ pub record Mixing : Type 0 where
   pub between : (o : ℕ) → BothLit (λ a s xs. saidXy (xyOf o a s xs))
   pub one-dark : (o : ℕ) → OneDark (λ a s xs. saidXy (xyOf o a s xs))
 
--- more light at no place is no more in any illuminance or in X, Y, Z
+-- the order of the samples is kept by each illuminance and by X, Y, Z
 pub record Order : Type 0 where
   pub photopic : InOrder (λ a s xs. saidReading (photopicOf a s xs))
   pub scotopic : InOrder (λ a s xs. saidReading (scotopicOf a s xs))

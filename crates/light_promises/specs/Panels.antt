@@ -1,4 +1,4 @@
--- What is promised of panels: X, Y, Z are given, white is exactly 100000, and the order of reflectances is kept.
+-- What is promised of panels: X, Y, Z are given, a full white panel's Y is exactly 100000, and the order of reflectances is kept.
 use mathlib.Core.Path.{_≡_}
 use mathlib.Core.Bool.{true}
 use mathlib.Core.List.{List}

@@ -24,12 +24,12 @@ fn line(i: u64)
     let c = draw(b);
     let step = made::step_from(a);
     let start = made::start_from(b);
-    filled(start, step, made::count_from(c, start, step), draw(c));
+    answers_on_grid(start, step, made::count_from(c, start, step), draw(c));
     io::write_all(STDOUT_FILENO, b"\n");
 }
 
-// The answers for a grid, from the draw that gives the mode.
-fn filled(start: u32, step: u32, count: usize, d: u64)
+// From the draw that gives the mode.
+fn answers_on_grid(start: u32, step: u32, count: usize, d: u64)
     requires { ⌜ (count ≤ 532) × (d < 2147483647) ⌝ }
 {
     let mode = d % 8;

@@ -1,9 +1,8 @@
 -- A panel's X, Y, Z and x, y as one answer, and the rules' number, place and values of it.
 use mathlib.Core.List.{List, [], _∷_}
-use Prim.Native.Nat.{ℕ, _*_}
+use Prim.Native.Nat.{ℕ}
 use Rattle.answers.specs.declared.XyzAnswer.{XyzAnswer}
 use Rattle.answers.specs.declared.XyAnswer.{XyAnswer}
-use Rattle.answers.specs.Worked.{xyzFrom, xyFrom}
 use Rattle.grid.specs.Said.{Said, given, refusedWith}
 use Rattle.answers.specs.Said.{colourValues}
 use Rattle.panel.specs.declared.figures.PanelFiguresAnswer.{PanelFiguresAnswer}
@@ -13,10 +12,6 @@ use Rattle.panel.specs.Panel.{panelXyzOf, panelXyOf}
 abbrev pub panelFiguresTogether : XyzAnswer → XyAnswer → PanelFiguresAnswer
 panelFiguresTogether (XyzAnswer.Refused r) xy = PanelFiguresAnswer.Refused r
 panelFiguresTogether (XyzAnswer.Value v) xy = PanelFiguresAnswer.Value (record { xyz = v; xy = xy })
-
--- those of three sums: X, Y, Z over d, and x, y
-abbrev pub panelFiguresFrom : ℕ → ℕ → ℕ → ℕ → PanelFiguresAnswer
-panelFiguresFrom x y z d = panelFiguresTogether (xyzFrom (x * 10) (y * 10) (z * 10) d) (xyFrom x y z)
 
 -- X, Y, Z and x, y, each as it is answered by itself
 abbrev pub panelFiguresOf : ℕ → ℕ → ℕ → ℕ → List ℕ → PanelFiguresAnswer

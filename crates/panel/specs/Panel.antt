@@ -60,7 +60,7 @@ unfoldable pub panelXyOf : ℕ → ℕ → ℕ → ℕ → List ℕ → XyAnswer
 panelXyOf o i a s rs =
     unless (panelCheck o i a s rs) XyAnswer.Refused (xyFrom (panelXSum o i a s rs) (panelYSum o i a s rs) (panelZSum o i a s rs))
 
--- dark where x and y would be refused 9; the other refusals hold as for x and y
+-- dark where x and y would be refused DARK; the other refusals hold as for x and y
 unfoldable pub panelChartOf : ℕ → ℕ → ℕ → ℕ → List ℕ → ChartAnswer
 panelChartOf o i a s rs =
     unless (panelCheck o i a s rs) ChartAnswer.Refused

@@ -4,7 +4,7 @@ use crate::white::divisor;
 use answers::XyAnswer;
 use answers::Xyz;
 use answers::XyzAnswer;
-use answers::summed::SumsAnswer;
+use answers::from_sums::SumsAnswer;
 use answers::work::xy_from;
 use answers::work::xyz_from;
 use curves::weigh::Sums;
@@ -13,7 +13,8 @@ use grid::Refusal;
 ghost use mathlib.Core.Path.{_≡_};
 ghost use Prim.Native.Nat.{_+_, _^_, _<_};
 ghost use Rattle.exact.specs.Value.{short};
-ghost use Rattle.panel.specs.Figures.{panelFiguresFrom, panelFiguresOf};
+ghost use Rattle.panel.specs.Figures.{panelFiguresOf};
+ghost use Rattle.panel.specs.Sums.{panelFiguresFrom};
 
 // x and y may be refused as dark.
 pub struct PanelFigures {

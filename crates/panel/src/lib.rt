@@ -10,9 +10,9 @@ use crate::white::divisor;
 use answers::ChartAnswer;
 use answers::XyAnswer;
 use answers::XyzAnswer;
-use answers::summed::SumsAnswer;
-use answers::summed::chart_of;
-use answers::summed::xy_of;
+use answers::from_sums::SumsAnswer;
+use answers::from_sums::chart_summed;
+use answers::from_sums::xy_summed;
 use answers::work::xyz_from;
 ghost use mathlib.Core.Path.{_≡_};
 ghost use Rattle.panel.specs.Panel.{panelXyzOf, panelXyOf, panelChartOf};
@@ -44,7 +44,7 @@ pub fn panel_xy(
 ) -> XyAnswer
     ensures { λ r. ⌜ r ≡ panelXyOf observer illuminant start step (now (reflectances .entry)) ⌝ }
 {
-    xy_of(panel_sums(observer, illuminant, start, step, reflectances))
+    xy_summed(panel_sums(observer, illuminant, start, step, reflectances))
 }
 
 // The chart's point, or dark.
@@ -57,5 +57,5 @@ pub fn panel_chart(
 ) -> ChartAnswer
     ensures { λ r. ⌜ r ≡ panelChartOf observer illuminant start step (now (reflectances .entry)) ⌝ }
 {
-    chart_of(panel_sums(observer, illuminant, start, step, reflectances))
+    chart_summed(panel_sums(observer, illuminant, start, step, reflectances))
 }

@@ -1,7 +1,7 @@
 // The three sums of a panel, or its first refusal.
 use crate::part::part_sums;
 use crate::reflectances::check_reflectances;
-use answers::summed::SumsAnswer;
+use answers::from_sums::SumsAnswer;
 use grid::Check;
 use grid::check_grid;
 use grid::is_observer;

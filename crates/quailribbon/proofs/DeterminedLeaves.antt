@@ -41,8 +41,8 @@ use Rattle.spectrum.proofs.line.lay.Reads as lay
 use Rattle.answers.proofs.work.reading_from.Reads as reading-from
 use Rattle.answers.proofs.work.xyz_from.Reads as xyz-from
 use Rattle.answers.proofs.work.xy_from.Reads as xy-from
-use Rattle.answers.proofs.summed.xy_of.Reads as xy-of
-use Rattle.answers.proofs.summed.chart_of.Reads as chart-of
+use Rattle.answers.proofs.from_sums.xy_summed.Reads as xy-summed
+use Rattle.answers.proofs.from_sums.chart_summed.Reads as chart-summed
 
 -- The contract of a number in digits gives its value, which fixes the digits since each below the highest fits its field.
 -- That a u32 is below 2^32 and a u64 below 2^64 is said by the result's type, and no contract repeats it; so here it is
@@ -199,8 +199,8 @@ one-xyz-from k a r q e f p s = same p s
 one-xy-from : OneResult xy-from.Post
 one-xy-from k a r q e f p s = same p s
 
-one-xy-of : OneResult xy-of.Post
-one-xy-of k a r q e f p s = same p s
+one-xy-summed : OneResult xy-summed.Post
+one-xy-summed k a r q e f p s = same p s
 
-one-chart-of : OneResult chart-of.Post
-one-chart-of k a r q e f p s = same p s
+one-chart-summed : OneResult chart-summed.Post
+one-chart-summed k a r q e f p s = same p s

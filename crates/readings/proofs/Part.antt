@@ -18,7 +18,7 @@ use Rattle.curves.proofs.Sums.{sums-equal}
 use Rattle.spectrum.specs.Begin.{Begins, Begun}
 use Rattle.spectrum.specs.declared.line.Begin.{Begin}
 use Rattle.spectrum.proofs.Begin.{partFrom, few, begun, W-begun}
-use Rattle.answers.specs.declared.summed.SumsAnswer.{SumsAnswer}
+use Rattle.answers.specs.declared.from_sums.SumsAnswer.{SumsAnswer}
 use Rattle.answers.specs.Summed.{ShortTotal}
 use Rattle.answers.proofs.FromSums.{given-sums}
 use Rattle.readings.specs.Readings.{weighed, colourCheck}

@@ -1,15 +1,17 @@
 -- What the sums of a light, or of a part of its row, stand for: no promise to a caller rests on the reading of this.
 use mathlib.Core.Path.{_≡_}
 use mathlib.Core.List.{List}
-use Prim.Native.Nat.{ℕ}
+use Prim.Native.Nat.{ℕ, _*_}
 use Rattle.exact.specs.Value.{short}
 use Rattle.curves.specs.declared.weigh.Sums.{Sums}
 use Rattle.curves.specs.Observer.{SumsBy}
-use Rattle.answers.specs.declared.summed.SumsAnswer.{SumsAnswer}
+use Rattle.answers.specs.declared.from_sums.SumsAnswer.{SumsAnswer}
+use Rattle.answers.specs.Worked.{readingFrom, xyzFrom, xyFrom}
 use Rattle.answers.specs.Summed.{Summed}
 use Rattle.tables.specs.declared.Curve.the-variants.{VPrime}
 use Rattle.readings.specs.declared.sums.FigureSums.{FigureSums}
-use Rattle.readings.specs.Readings.{weighed, colourCheck}
+use Rattle.readings.specs.declared.figures.FiguresAnswer.{FiguresAnswer}
+use Rattle.readings.specs.Readings.{weighed, colourCheck, figuresTogether}
 
 -- W of each of the observer's curves
 abbrev pub LightSums : ℕ → ℕ → ℕ → List ℕ → Sums → Type 0
@@ -23,3 +25,8 @@ LightSummed o a s xs answer = Summed (colourCheck o a s xs) o (λ c. weighed c a
 pub record FigureSumsOf (a s : ℕ) (xs : List ℕ) (sums : FigureSums) : Type 0 where
   pub colour : LightSums 2 a s xs (sums .colour)
   pub night : short (sums .night) ≡ weighed VPrime a s xs
+
+-- the figures of the report from the sums x, y, z of observer 2 and that of V′, over d
+abbrev pub figuresFrom : ℕ → ℕ → ℕ → ℕ → ℕ → FiguresAnswer
+figuresFrom x y z night d =
+    figuresTogether (readingFrom (683 * y) d) (readingFrom (1700 * night) d) (xyzFrom (683 * x) (683 * y) (683 * z) d) (xyFrom x y z)

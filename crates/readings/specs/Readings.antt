@@ -84,7 +84,7 @@ xyzOf o a s xs =
 unfoldable pub xyOf : ℕ → ℕ → ℕ → List ℕ → XyAnswer
 xyOf o a s xs = unless (colourCheck o a s xs) XyAnswer.Refused (xyFrom (xSum o a s xs) (ySum o a s xs) (zSum o a s xs))
 
--- dark where x and y would be refused 9; the other refusals hold as for x and y
+-- dark where x and y would be refused DARK; the other refusals hold as for x and y
 unfoldable pub chartOf : ℕ → ℕ → ℕ → List ℕ → ChartAnswer
 chartOf o a s xs =
     unless (colourCheck o a s xs) ChartAnswer.Refused
@@ -97,11 +97,6 @@ figuresTogether (Reading.Value p) (Reading.Refused r) xyz xy = FiguresAnswer.Ref
 figuresTogether (Reading.Value p) (Reading.Value q) (XyzAnswer.Refused r) xy = FiguresAnswer.Refused r
 figuresTogether (Reading.Value p) (Reading.Value q) (XyzAnswer.Value v) xy =
     FiguresAnswer.Value (record { photopic = p; scotopic = q; xyz = v; xy = xy })
-
--- those of the sums x, y, z of observer 2 and of V′'s sum, over d
-abbrev pub figuresFrom : ℕ → ℕ → ℕ → ℕ → ℕ → FiguresAnswer
-figuresFrom x y z night d =
-    figuresTogether (readingFrom (683 * y) d) (readingFrom (1700 * night) d) (xyzFrom (683 * x) (683 * y) (683 * z) d) (xyFrom x y z)
 
 -- the figures of the report, at observer 2
 abbrev pub figuresOf : ℕ → ℕ → List ℕ → FiguresAnswer

@@ -4,9 +4,9 @@ use crate::sums::colour_sums;
 use answers::ChartAnswer;
 use answers::XyAnswer;
 use answers::XyzAnswer;
-use answers::summed::SumsAnswer;
-use answers::summed::chart_of;
-use answers::summed::xy_of;
+use answers::from_sums::SumsAnswer;
+use answers::from_sums::chart_summed;
+use answers::from_sums::xy_summed;
 use answers::work::xyz_from;
 use grid::Check;
 use grid::check_light;
@@ -34,14 +34,14 @@ pub fn xyz(observer: u32, start: u32, step: u32, samples: &[u32]) -> XyzAnswer
 pub fn xy(observer: u32, start: u32, step: u32, samples: &[u32]) -> XyAnswer
     ensures { λ r. ⌜ r ≡ xyOf observer start step (now (samples .entry)) ⌝ }
 {
-    xy_of(light_sums(observer, start, step, samples))
+    xy_summed(light_sums(observer, start, step, samples))
 }
 
 // The chart's point, or dark.
 pub fn chart(observer: u32, start: u32, step: u32, samples: &[u32]) -> ChartAnswer
     ensures { λ r. ⌜ r ≡ chartOf observer start step (now (samples .entry)) ⌝ }
 {
-    chart_of(light_sums(observer, start, step, samples))
+    chart_summed(light_sums(observer, start, step, samples))
 }
 
 // OBSERVER, and then the light's own refusals.

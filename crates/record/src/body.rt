@@ -40,7 +40,7 @@ pub fn read_body(bytes: &[u8], count: usize, samples: &mut [u32]) -> Check
     if samples.len() < count {
         return grid::refused(ROOM);
     }
-    fill_row(&row[..count], samples);
+    copy_to_front(&row[..count], samples);
     Check::Fine
 }
 
@@ -56,7 +56,7 @@ fn padding_is_clear(bytes: &[u8], count: usize) -> bool
 }
 
 // Copies a row to the front of another.
-fn fill_row(row: &[u32], samples: &mut [u32])
+fn copy_to_front(row: &[u32], samples: &mut [u32])
     requires { ⌜ length (now row) ≤ length (now samples) ⌝ }
     ensures { λ _. ⌜ now (samples .exit) ≡ now (row .entry) ++ drop (length (now (row .entry))) (now (samples .entry)) ⌝ }
 {

@@ -1,4 +1,5 @@
--- Where the samples that carry weight begin in a row, and what a part of a row must be to be summed.
+-- Where the samples that carry weight begin in a row, and what a part of a row must be to be summed: no promise to a caller
+-- rests on the reading of this.
 use mathlib.Core.Path.{_≡_}
 use mathlib.Core.List.{List}
 use Prim.Native.Nat.{ℕ, _+_, _*_, _-_, _/_}

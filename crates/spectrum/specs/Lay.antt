@@ -1,4 +1,5 @@
--- A row that T is laid over, and how far: no promise to a caller rests on the reading of this.
+-- What a part must be to be laid, the row that T is laid over, and how far it is: no promise to a caller rests on the reading
+-- of this.
 use mathlib.Core.Path.{_≡_}
 use mathlib.Core.Bool.{true}
 use mathlib.Core.List.{List, [], _∷_}

@@ -15,7 +15,7 @@ pub fn copy(first: u32, part: &[u32], row: &mut [u64; 471])
     }
 }
 
-// The first part of it begins at 360 nm, which may be above the first sample; the others begin at a sample.
+// First from 360 nm, which may be above the first sample, to the next sample; then from each sample to the next.
 pub fn walk(first: u32, step: u32, part: &[u32], row: &mut [u64; 471])
     requires { ⌜ Part first step (length (now part)) × Unmeasured (now row) ⌝ }
     ensures { λ _. ⌜ now (row .exit) ≡ rowOf first step (now (part .entry)) ⌝ }

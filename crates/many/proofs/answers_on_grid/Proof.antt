@@ -2,8 +2,8 @@
 use native.Mathlib.Omega.{arith}
 use lib.ListN.{length-take}
 use borrow.Author.Needs.{needs}
-use Rattle.many.proofs.filled.Statement.{statement}
-use Rattle.many.proofs.filled.Tie as tie
+use Rattle.many.proofs.answers_on_grid.Statement.{statement}
+use Rattle.many.proofs.answers_on_grid.Tie as tie
 
 slice-aggregate-answers : tie.Need-slice-aggregate-answers
 slice-aggregate-answers c = simp length-take (omega arith)
@@ -11,8 +11,8 @@ slice-aggregate-answers c = simp length-take (omega arith)
 slice-aggregate-answers-2 : tie.Need-slice-aggregate-answers-2
 slice-aggregate-answers-2 c = simp length-take (omega arith)
 
-pub filled-spec : {M : Type 1} → statement M
-filled-spec =
+pub answers-on-grid-spec : {M : Type 1} → statement M
+answers-on-grid-spec =
     tie.close
     (tie.spec
     (λ c κs. search needs)

@@ -7,14 +7,14 @@ use borrow.Author.Needs.{needs}
 use Rattle.panel.proofs.panel_chart.Statement.{statement}
 use Rattle.panel.proofs.panel_chart.Tie as tie
 
-chart-of-requires : tie.Need-chart-of-requires
-chart-of-requires c κs =
+chart-summed-requires : tie.Need-chart-summed-requires
+chart-summed-requires c κs =
     let t = c .before .before .args in
     short-total (t .observer) (t .illuminant) (t .start) (t .step) (t .reflectances .now) (c .panel-sums .result) (c .panel-sums .ensures)
 
 returns : tie.Need-returns
 unfolding panelChartOf
-returns c = c .chart-of .ensures ∙ chart-summed _ _ _ (c .before .panel-sums .result) (c .before .panel-sums .ensures)
+returns c = c .chart-summed .ensures ∙ chart-summed _ _ _ (c .before .panel-sums .result) (c .before .panel-sums .ensures)
 
 pub panel-chart-spec : {M : Type 1} → statement M
-panel-chart-spec = tie.close (tie.spec (λ c κs. search needs) chart-of-requires returns)
+panel-chart-spec = tie.close (tie.spec (λ c κs. search needs) chart-summed-requires returns)

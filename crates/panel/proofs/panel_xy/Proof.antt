@@ -7,14 +7,14 @@ use borrow.Author.Needs.{needs}
 use Rattle.panel.proofs.panel_xy.Statement.{statement}
 use Rattle.panel.proofs.panel_xy.Tie as tie
 
-xy-of-requires : tie.Need-xy-of-requires
-xy-of-requires c κs =
+xy-summed-requires : tie.Need-xy-summed-requires
+xy-summed-requires c κs =
     let t = c .before .before .args in
     short-total (t .observer) (t .illuminant) (t .start) (t .step) (t .reflectances .now) (c .panel-sums .result) (c .panel-sums .ensures)
 
 returns : tie.Need-returns
 unfolding panelXyOf
-returns c = c .xy-of .ensures ∙ xy-summed _ _ _ (c .before .panel-sums .result) (c .before .panel-sums .ensures)
+returns c = c .xy-summed .ensures ∙ xy-summed _ _ _ (c .before .panel-sums .result) (c .before .panel-sums .ensures)
 
 pub panel-xy-spec : {M : Type 1} → statement M
-panel-xy-spec = tie.close (tie.spec (λ c κs. search needs) xy-of-requires returns)
+panel-xy-spec = tie.close (tie.spec (λ c κs. search needs) xy-summed-requires returns)

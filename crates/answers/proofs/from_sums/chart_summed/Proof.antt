@@ -1,8 +1,8 @@
 -- The two arms are those of chartSummed.
 use Rattle.answers.specs.Summed.{chartSummed}
 use borrow.Author.Needs.{needs}
-use Rattle.answers.proofs.summed.chart_of.Statement.{statement}
-use Rattle.answers.proofs.summed.chart_of.Tie as tie
+use Rattle.answers.proofs.from_sums.chart_summed.Statement.{statement}
+use Rattle.answers.proofs.from_sums.chart_summed.Tie as tie
 
 xy-from-requires : tie.Need-xy-from-requires
 xy-from-requires c κs = c .before .before .before .pre _ (c .before .answer .given .1)
@@ -15,7 +15,7 @@ returns-2 : tie.Need-returns-2
 unfolding chartSummed
 returns-2 c = rw (c .before .answer2 .given .1)
 
-pub chart-of-spec : {M : Type 1} → statement M
-chart-of-spec =
+pub chart-summed-spec : {M : Type 1} → statement M
+chart-summed-spec =
     tie.close
     (tie.spec (λ c. search needs) xy-from-requires (λ c κs. search needs) (λ c. search needs) returns returns-2)

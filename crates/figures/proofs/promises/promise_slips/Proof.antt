@@ -12,7 +12,8 @@ use Rattle.answers.specs.Worked.{readingFrom, xyzFrom, xyFrom}
 use Rattle.readings.specs.Readings.{illuminanceOf, xyzOf, xyOf}
 use Rattle.grid.specs.Said.{value}
 use Rattle.figures.specs.Asked.{Asked, answerOf}
-use Rattle.figures.specs.Slips.{filledDown, Apart}
+use Rattle.figures.specs.Slips.{filledDown}
+use Rattle.figures.specs.Promises.{Apart}
 use Rattle.figures.proofs.promises.promise_slips.Statement.{statement}
 use Rattle.figures.proofs.promises.promise_slips.Tie as tie
 

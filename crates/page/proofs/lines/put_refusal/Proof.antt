@@ -1,4 +1,4 @@
--- The number, and behind it the place where the number is 4.
+-- The number, and behind it the place where the number is SAMPLE's.
 use mathlib.Core.Path.{_≡_}
 use mathlib.Core.List.{_++_, append-nil}
 use Prim.Native.Nat.{_+_}
@@ -16,19 +16,19 @@ use Rattle.page.proofs.lines.put_refusal.Tie as tie
 
 placed : (r : Refusal) → r .number ≡ SAMPLE → numbered r ≡ decimal (r .number) ++ (ascii " at " ++ decimal (r .place))
 unfolding numbered
-placed r e = rw (eq-eqb (r .number) 4 e)
+placed r e = rw (eq-eqb (r .number) SAMPLE e)
 
 long : (r : Refusal) → r .number ≡ SAMPLE → length (numbered r) ≡ length (decimal (r .number)) + (4 + length (decimal (r .place)))
 long r e = rw (placed r e) (simp length-append)
 
 unplaced : (r : Refusal) → (r .number ≡ SAMPLE → ⊥) → numbered r ≡ decimal (r .number)
 unfolding numbered
-unplaced r h = rw (ne-eqb (r .number) 4 h, append-nil)
+unplaced r h = rw (ne-eqb (r .number) SAMPLE h, append-nil)
 
 abbrev begin : tie.After-put-number → tie.Start
 begin c = c .before .before .before .before
 
--- the number stands before the test, and with its place for 4 the word between them
+-- the number stands before the test, and with its place for SAMPLE the word between them
 abbrev number : tie.After-struct-known2 → tie.After-put-number
 number c = c .before .before .before
 

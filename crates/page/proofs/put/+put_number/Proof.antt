@@ -31,20 +31,11 @@ put-number-below t =
 abbrev claims : ℕ → put-number-lts.Claims
 claims t = (digit-reads.Asked, digit-reads.Learnt, put-reads.Asked, put-reads.Learnt, put-number-below t, put-number.Post)
 
-put-number-digit-requires : (t : ℕ) → put-number-lts.Need-digit-requires (claims t) (put-number-at t) put-number.Post
-put-number-digit-requires t c κs = tt
-
-put-number-slice-aggregate-put : (t : ℕ) → put-number-lts.Need-slice-aggregate-put (claims t) (put-number-at t) put-number.Post
-put-number-slice-aggregate-put t c = refl
-
 put-number-put-requires : (t : ℕ) → put-number-lts.Need-put-requires (claims t) (put-number-at t) put-number.Post
 put-number-put-requires t c κs =
     let short = c .before .before in
     let start = short .before .before .before in
     omega (arith, start .pre .1, ap length (decimal-one (start .args .n) (short .if1 .taken)))
-
-put-number-same-length : (t : ℕ) → put-number-lts.Need-same-length (claims t) (put-number-at t) put-number.Post
-put-number-same-length t c = search needs
 
 put-number-returns : (t : ℕ) → put-number-lts.Need-returns (claims t) (put-number-at t) put-number.Post
 put-number-returns t c =
@@ -70,9 +61,6 @@ put-number-put-requires-2 t c κs =
     let more = simp length-append at (ap length (decimal-more (start .args .n) (long .if1 .left) (omega arith))) in
     omega (arith, start .pre .1, more)
 
-put-number-same-length-2 : (t : ℕ) → put-number-lts.Need-same-length-2 (claims t) (put-number-at t) put-number.Post
-put-number-same-length-2 t c = search needs
-
 put-number-returns-2 : (t : ℕ) → put-number-lts.Need-returns-2 (claims t) (put-number-at t) put-number.Post
 put-number-returns-2 t c =
     let put = c .before .before in
@@ -87,13 +75,13 @@ pub +put-number-spec : {M : Type 1} → statement M
 +put-number-spec = close μ-put-number λ t. put-number-lts.spec (claims t)
     (put-number-at t)
     put-number.Post
-    (put-number-digit-requires t)
-    (put-number-slice-aggregate-put t)
+    (λ c κs. tt)
+    (λ c. refl)
     (put-number-put-requires t)
-    (put-number-same-length t)
+    (λ c. search needs)
     (put-number-returns t)
     (put-number-put-number-requires t)
     (put-number-slice-aggregate-put-2 t)
     (put-number-put-requires-2 t)
-    (put-number-same-length-2 t)
+    (λ c. search needs)
     (put-number-returns-2 t)

@@ -21,31 +21,33 @@ use Rattle.panel.proofs.sums.panel_sums.Tie as tie
 abbrev begin : tie.After-enum-told → tie.Start
 begin c = c .before .before .before .before
 
-abbrev given : tie.After-enum-told → List ℕ
-given c = begin c .args .reflectances .now
+abbrev reflectances : tie.After-enum-told → List ℕ
+reflectances c = begin c .args .reflectances .now
 
 -- the setting and the grid are fine in this arm
-setting-fine : (c : tie.After-enum-told) → settingCheck (begin c .args .observer) (begin c .args .illuminant) (begin c .args .start) (begin c .args .step) (length (given c)) ≡ Fine
+setting-fine :
+    (c : tie.After-enum-told) →
+    let t = begin c .args in settingCheck (t .observer) (t .illuminant) (t .start) (t .step) (length (reflectances c)) ≡ Fine
 setting-fine c = sym (c .before .before .check-setting .ensures) ∙ c .enum-told .given .1
 
-on-grid : (c : tie.After-enum-told) → OnGrid (begin c .args .start) (begin c .args .step) (length (given c))
+on-grid : (c : tie.After-enum-told) → OnGrid (begin c .args .start) (begin c .args .step) (length (reflectances c))
 on-grid c =
     let t = begin c .args in
-    let n = length (given c) in
+    let n = length (reflectances c) in
     setting-grid (t .observer) (t .illuminant) (t .start) (t .step) n (setting-fine c)
 
 abbrev setting : tie.After-enum-told2 → tie.After-enum-told
 setting c = c .before .before .before
 
 -- and so are the reflectances in this one
-reflectances-fine : (c : tie.After-enum-told2) → reflectancesCheck (given (setting c)) ≡ Fine
+reflectances-fine : (c : tie.After-enum-told2) → reflectancesCheck (reflectances (setting c)) ≡ Fine
 reflectances-fine c = sym (c .before .before .check-reflectances .ensures) ∙ c .enum-told2 .given .1
 
 -- where 360 was looked for: the place found lies in the row
-in-row : (c : tie.After-begin-at-360) → c .begin-at-360 .result .place ≤ length (given (setting (c .before)))
+in-row : (c : tie.After-begin-at-360) → c .begin-at-360 .result .place ≤ length (reflectances (setting (c .before)))
 in-row c =
     let told = setting (c .before) in
-    few (begin told .args .start) (begin told .args .step) (given told) (on-grid told) (c .begin-at-360 .result) (c .begin-at-360 .ensures)
+    few (begin told .args .start) (begin told .args .step) (reflectances told) (on-grid told) (c .begin-at-360 .result) (c .begin-at-360 .ensures)
 
 check-reflectances-requires : tie.Need-check-reflectances-requires
 check-reflectances-requires c κs = on-grid c .many
@@ -66,7 +68,7 @@ part-sums-requires : tie.Need-part-sums-requires
 part-sums-requires c κs =
     let found = c .before in
     let told = setting (found .before) in
-    let rs = given told in
+    let rs = reflectances told in
     begun (begin told .args .start) (begin told .args .step) rs (on-grid told) (found .begin-at-360 .result) (found .begin-at-360 .ensures) 10000
     (fine-within REFLECTANCE 10000 0 rs (reflectances-fine (found .before)))
 
@@ -76,7 +78,7 @@ returns c =
     let found = c .before .before in
     let told = setting (found .before) in
     let t = begin told .args in
-    let rs = given told in (
+    let rs = reflectances told in (
       rw (setting-fine told) (reflectances-fine (found .before)),
       panel-begun (t .start) (t .step) rs (on-grid told) (found .begin-at-360 .result) (found .begin-at-360 .ensures) (t .observer) (t .illuminant) (c .part-sums .result) (c .part-sums .ensures),
     )

@@ -7,14 +7,14 @@ use borrow.Author.Needs.{needs}
 use Rattle.readings.proofs.colour.chart.Statement.{statement}
 use Rattle.readings.proofs.colour.chart.Tie as tie
 
-chart-of-requires : tie.Need-chart-of-requires
-chart-of-requires c κs =
+chart-summed-requires : tie.Need-chart-summed-requires
+chart-summed-requires c κs =
     let t = c .before .before .args in
     short-total (t .observer) (t .start) (t .step) (t .samples .now) (c .light-sums .result) (c .light-sums .ensures)
 
 returns : tie.Need-returns
 unfolding chartOf
-returns c = c .chart-of .ensures ∙ chart-summed _ _ _ (c .before .light-sums .result) (c .before .light-sums .ensures)
+returns c = c .chart-summed .ensures ∙ chart-summed _ _ _ (c .before .light-sums .result) (c .before .light-sums .ensures)
 
 pub chart-spec : {M : Type 1} → statement M
-chart-spec = tie.close (tie.spec (λ c κs. search needs) chart-of-requires returns)
+chart-spec = tie.close (tie.spec (λ c κs. search needs) chart-summed-requires returns)

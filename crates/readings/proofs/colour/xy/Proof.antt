@@ -7,14 +7,14 @@ use borrow.Author.Needs.{needs}
 use Rattle.readings.proofs.colour.xy.Statement.{statement}
 use Rattle.readings.proofs.colour.xy.Tie as tie
 
-xy-of-requires : tie.Need-xy-of-requires
-xy-of-requires c κs =
+xy-summed-requires : tie.Need-xy-summed-requires
+xy-summed-requires c κs =
     let t = c .before .before .args in
     short-total (t .observer) (t .start) (t .step) (t .samples .now) (c .light-sums .result) (c .light-sums .ensures)
 
 returns : tie.Need-returns
 unfolding xyOf
-returns c = c .xy-of .ensures ∙ xy-summed _ _ _ (c .before .light-sums .result) (c .before .light-sums .ensures)
+returns c = c .xy-summed .ensures ∙ xy-summed _ _ _ (c .before .light-sums .result) (c .before .light-sums .ensures)
 
 pub xy-spec : {M : Type 1} → statement M
-xy-spec = tie.close (tie.spec (λ c κs. search needs) xy-of-requires returns)
+xy-spec = tie.close (tie.spec (λ c κs. search needs) xy-summed-requires returns)

@@ -7,8 +7,8 @@ use borrow.Author.Needs.{needs}
 use lib.ListN.{length, take, drop, getD, set, length-set}
 use lib.Seq.{take-length}
 use Rattle.record.proofs.Store.{front-more}
-use Rattle.record.proofs.body.fill_row.Statement.{statement}
-use Rattle.record.proofs.body.fill_row.Tie as tie
+use Rattle.record.proofs.body.copy_to_front.Statement.{statement}
+use Rattle.record.proofs.body.copy_to_front.Tie as tie
 
 abbrev Inv-loop : tie.InvT-loop
 Inv-loop row samples₀ k₀ k-end samples k = (k ≤ length row) × (samples ≡ take k row ++ drop k samples₀) × (length samples ≡ length samples₀)
@@ -38,8 +38,8 @@ returns c =
     let e : c .before .loop .k ≡ length row = omega arith in
     rw e at (c .before .loop .inv .1) ∙ ap (λ (s : List ℕ). s ++ drop (length row) (c .before .before .args .samples .now)) (take-length row)
 
-pub fill-row-spec : {M : Type 1} → statement M
-fill-row-spec =
+pub copy-to-front-spec : {M : Type 1} → statement M
+copy-to-front-spec =
     tie.close
     (tie.spec
     Inv-loop

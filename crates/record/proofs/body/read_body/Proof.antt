@@ -87,23 +87,23 @@ returns-4 c =
     let short = lt-leb (count (row samples)) (length room) (c .before .if3 .taken) in
     (rw (e, short) (c .refused3 .ensures), rw (e, short))
 
-slice-aggregate-fill-row : tie.Need-slice-aggregate-fill-row
-slice-aggregate-fill-row c = let fine = c .before .before in sym (unpacked-length (row (fine .before .before)))
+slice-aggregate-copy-to-front : tie.Need-slice-aggregate-copy-to-front
+slice-aggregate-copy-to-front c = let fine = c .before .before in sym (unpacked-length (row (fine .before .before)))
 
-fill-row-requires : tie.Need-fill-row-requires
-fill-row-requires c κs = let fine = c .before .before .before in rw (unpacked-length (row (fine .before .before))) (c .before .before .if3 .left)
+copy-to-front-requires : tie.Need-copy-to-front-requires
+copy-to-front-requires c κs = let fine = c .before .before .before in rw (unpacked-length (row (fine .before .before))) (c .before .before .if3 .left)
 
 returns-5 : tie.Need-returns-5
 returns-5 c =
-    let filled = c .before .before in
-    let fits = filled .before .before .before in
+    let copied = c .before .before in
+    let fits = copied .before .before .before in
     let samples = fits .before .before .before in
     let n = count (row samples) in
     let room = begin (padding (row samples) .before .before) .args .samples .now in
     let e = checked samples ∙ fits .before .enum-told .given .1 in
     let enough = le-leb n (length room) (fits .if3 .left) in
-    let row-filled = rw (unpacked-length (row samples)) at (filled .fill-row .ensures) in
-    (rw (e, enough), rw (e, enough) (row-filled ∙ ap (λ (xs : List ℕ). xs ++ drop n room) (unpacked (row samples))))
+    let in-front = rw (unpacked-length (row samples)) at (copied .copy-to-front .ensures) in
+    (rw (e, enough), rw (e, enough) (in-front ∙ ap (λ (xs : List ℕ). xs ++ drop n room) (unpacked (row samples))))
 
 pub read-body-spec : {M : Type 1} → statement M
 read-body-spec =
@@ -126,7 +126,7 @@ read-body-spec =
     (λ c κs. search needs)
     returns-4
     (λ c. search needs)
-    slice-aggregate-fill-row
-    fill-row-requires
+    slice-aggregate-copy-to-front
+    copy-to-front-requires
     (λ c. search needs)
     returns-5)
