@@ -12,7 +12,7 @@ use Rattle.answers.specs.declared.XyAnswer.{XyAnswer}
 use Rattle.answers.specs.declared.ChartAnswer.{ChartAnswer}
 use Rattle.answers.specs.declared.from_sums.SumsAnswer.{SumsAnswer}
 use Rattle.answers.specs.Worked.{xyFrom, onChart}
-use Rattle.answers.specs.Summed.{Summed, xySummed, chartSummed}
+use Rattle.answers.specs.FromSums.{Summed, xySummed, chartSummed}
 
 module _ (check : Check) (o : ℕ) (by : Curve → ℕ) where
   pub given-sums : (answer : SumsAnswer) → Summed check o by answer → (sums : Sums) → answer ≡ SumsAnswer.Given sums → (check ≡ Fine) × SumsBy o by sums

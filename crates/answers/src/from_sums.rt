@@ -6,7 +6,7 @@ use crate::work::xy_from;
 use curves::weigh::Sums;
 use grid::Refusal;
 ghost use mathlib.Core.Path.{_≡_};
-ghost use Rattle.answers.specs.Summed.{ShortTotal, xySummed, chartSummed};
+ghost use Rattle.answers.specs.FromSums.{ShortTotal, xySummed, chartSummed};
 
 pub enum SumsAnswer {
     Given(Sums),

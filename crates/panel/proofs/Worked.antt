@@ -8,7 +8,7 @@ use Rattle.exact.specs.Value.{short}
 use Rattle.curves.specs.declared.weigh.Sums.{Sums}
 use Rattle.answers.specs.Worked.{xyzFrom, xyFrom}
 use Rattle.answers.specs.declared.from_sums.SumsAnswer.{SumsAnswer}
-use Rattle.answers.specs.Summed.{ShortTotal}
+use Rattle.answers.specs.FromSums.{ShortTotal}
 use Rattle.answers.proofs.FromSums.{given-sums}
 use Rattle.panel.specs.Panel.{panelCheck, whiteSum, panelXSum, panelYSum, panelZSum}
 use Rattle.panel.specs.Sums.{PanelSums, PanelSummed}

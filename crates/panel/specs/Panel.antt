@@ -30,7 +30,7 @@ illuminantOf i = cond (eqb i 2) D65 A
 unfoldable pub settingCheck : ℕ → ℕ → ℕ → ℕ → ℕ → Check
 settingCheck o i a s n = require (isObserver o) OBSERVER (require (isIlluminant i) ILLUMINANT (gridCheck a s n))
 
--- then REFLECTANCE
+-- those, and then REFLECTANCE
 unfoldable pub panelCheck : ℕ → ℕ → ℕ → ℕ → List ℕ → Check
 panelCheck o i a s rs = thenCheck (settingCheck o i a s (length rs)) (reflectancesCheck rs)
 

@@ -7,7 +7,7 @@ use Rattle.curves.specs.Observer.{SumsBy}
 use Rattle.tables.specs.Curves.{litBy}
 use Rattle.answers.specs.declared.from_sums.SumsAnswer.{SumsAnswer}
 use Rattle.answers.specs.Worked.{xyzFrom, xyFrom}
-use Rattle.answers.specs.Summed.{Summed}
+use Rattle.answers.specs.FromSums.{Summed}
 use Rattle.panel.specs.declared.figures.PanelFiguresAnswer.{PanelFiguresAnswer}
 use Rattle.panel.specs.Panel.{illuminantOf, panelCheck}
 use Rattle.panel.specs.Figures.{panelFiguresTogether}

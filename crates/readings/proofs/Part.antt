@@ -19,10 +19,10 @@ use Rattle.spectrum.specs.Begin.{Begins, Begun}
 use Rattle.spectrum.specs.declared.line.Begin.{Begin}
 use Rattle.spectrum.proofs.Begin.{partFrom, few, begun, W-begun}
 use Rattle.answers.specs.declared.from_sums.SumsAnswer.{SumsAnswer}
-use Rattle.answers.specs.Summed.{ShortTotal}
+use Rattle.answers.specs.FromSums.{ShortTotal}
 use Rattle.answers.proofs.FromSums.{given-sums}
 use Rattle.readings.specs.Readings.{weighed, colourCheck}
-use Rattle.readings.specs.Colour.{LightSums, LightSummed}
+use Rattle.readings.specs.Sums.{LightSums, LightSummed}
 use Rattle.readings.proofs.Small.{sum-small}
 
 -- a light that passed its checks

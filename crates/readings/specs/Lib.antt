@@ -1,4 +1,4 @@
 -- Definitions of the crate `readings`.
 pub mod Readings
-pub mod Colour
+pub mod Sums
 pub mod Figures

@@ -17,7 +17,7 @@ use spectrum::line::begin_at_360;
 ghost use mathlib.Core.Path.{_≡_};
 ghost use Rattle.curves.specs.Observer.{ofObserver};
 ghost use Rattle.readings.specs.Readings.{colourCheck, xyzOf, xyOf, chartOf};
-ghost use Rattle.readings.specs.Colour.{LightSummed};
+ghost use Rattle.readings.specs.Sums.{LightSummed};
 
 // X, Y and Z in millilux.
 pub fn xyz(observer: u32, start: u32, step: u32, samples: &[u32]) -> XyzAnswer

@@ -18,7 +18,7 @@ ghost use mathlib.Core.Path.{_≡_};
 ghost use Prim.Native.Nat.{_+_, _^_, _<_};
 ghost use Rattle.exact.specs.Value.{short};
 ghost use Rattle.readings.specs.Readings.{figuresOf};
-ghost use Rattle.readings.specs.Colour.{figuresFrom};
+ghost use Rattle.readings.specs.Sums.{figuresFrom};
 
 // x and y may be refused as dark.
 pub struct ReportFigures {

@@ -14,7 +14,7 @@ ghost use Prim.Native.Nat.{_≤_};
 ghost use Rattle.exact.specs.Value.{short};
 ghost use Rattle.spectrum.specs.Begin.{Begun};
 ghost use Rattle.readings.specs.Readings.{weighed as weighedBy, mesopicWeighed};
-ghost use Rattle.readings.specs.Colour.{LightSums, FigureSumsOf};
+ghost use Rattle.readings.specs.Sums.{LightSums, FigureSumsOf};
 
 // W of a curve.
 pub fn weighed(curve: Curve, first: u32, step: u32, part: &[u32]) -> Short

@@ -1,5 +1,5 @@
 -- The two arms are those of chartSummed.
-use Rattle.answers.specs.Summed.{chartSummed}
+use Rattle.answers.specs.FromSums.{chartSummed}
 use borrow.Author.Needs.{needs}
 use Rattle.answers.proofs.from_sums.chart_summed.Statement.{statement}
 use Rattle.answers.proofs.from_sums.chart_summed.Tie as tie

@@ -1,5 +1,5 @@
 -- The two arms are those of xySummed.
-use Rattle.answers.specs.Summed.{xySummed}
+use Rattle.answers.specs.FromSums.{xySummed}
 use borrow.Author.Needs.{needs}
 use Rattle.answers.proofs.from_sums.xy_summed.Statement.{statement}
 use Rattle.answers.proofs.from_sums.xy_summed.Tie as tie

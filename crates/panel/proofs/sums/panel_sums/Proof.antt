@@ -11,7 +11,7 @@ use Rattle.grid.proofs.Accepted.{OnGrid}
 use Rattle.grid.proofs.Limit.{fine-within}
 use Rattle.spectrum.proofs.Begin.{few, begun}
 use Rattle.panel.specs.Panel.{settingCheck, panelCheck}
-use Rattle.answers.specs.Summed.{Summed}
+use Rattle.answers.specs.FromSums.{Summed}
 use Rattle.panel.proofs.Accepted.{setting-grid}
 use Rattle.panel.proofs.Weighed.{panel-begun}
 use borrow.Author.Needs.{needs}

@@ -2,7 +2,7 @@
 use mathlib.Core.Path.{_≡_, _∙_, sym}
 use native.Mathlib.Omega.{arith}
 use Rattle.grid.specs.declared.Check.the-variants.{Fine}
-use Rattle.answers.specs.Summed.{Summed}
+use Rattle.answers.specs.FromSums.{Summed}
 use Rattle.readings.specs.Readings.{colourCheck}
 use Rattle.readings.proofs.Part.{AcceptedLight, light-of, sought, BegunLight, in-row, part-begun, colour-begun}
 use borrow.Author.Needs.{needs}

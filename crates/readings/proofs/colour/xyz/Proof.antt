@@ -4,7 +4,7 @@ use Rattle.grid.specs.declared.Check.the-variants.{Fine}
 use Rattle.answers.proofs.Values.{xyz-factor}
 use Rattle.answers.proofs.FromSums.{given-sums, refused-sums}
 use Rattle.readings.specs.Readings.{xyzOf, colourCheck}
-use Rattle.readings.specs.Colour.{LightSums}
+use Rattle.readings.specs.Sums.{LightSums}
 use Rattle.readings.proofs.Part.{light-of, step-small}
 use borrow.Author.Needs.{needs}
 use Rattle.readings.proofs.colour.xyz.Statement.{statement}

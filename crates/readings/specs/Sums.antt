@@ -7,7 +7,7 @@ use Rattle.curves.specs.declared.weigh.Sums.{Sums}
 use Rattle.curves.specs.Observer.{SumsBy}
 use Rattle.answers.specs.declared.from_sums.SumsAnswer.{SumsAnswer}
 use Rattle.answers.specs.Worked.{readingFrom, xyzFrom, xyFrom}
-use Rattle.answers.specs.Summed.{Summed}
+use Rattle.answers.specs.FromSums.{Summed}
 use Rattle.tables.specs.declared.Curve.the-variants.{VPrime}
 use Rattle.readings.specs.declared.sums.FigureSums.{FigureSums}
 use Rattle.readings.specs.declared.figures.FiguresAnswer.{FiguresAnswer}
