@@ -4,4 +4,4 @@ pub mod Columns
 pub mod Sums
 pub mod UnitAt
 pub mod Held
-pub mod White
+pub mod Lit

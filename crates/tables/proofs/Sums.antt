@@ -11,17 +11,17 @@ use Rattle.tables.specs.declared.Curve.{Curve}
 use Rattle.tables.specs.declared.Curve.the-variants.{XBar, YBar, ZBar, XBar10, YBar10, ZBar10, VPrime}
 use Rattle.tables.specs.declared.Illuminant.{Illuminant}
 
+pub table-sum-small : (c : Curve) → tableSum c ≤ 2000000000000000
+table-sum-small XBar = lit≤ tt
+table-sum-small YBar = lit≤ tt
+table-sum-small ZBar = lit≤ tt
+table-sum-small XBar10 = lit≤ tt
+table-sum-small YBar10 = lit≤ tt
+table-sum-small ZBar10 = lit≤ tt
+table-sum-small VPrime = lit≤ tt
+
 pub curve-sum : (c : Curve) → total 471 (weightOf c) ≤ 2000000000000000
-curve-sum c = rw (column-total c) (few c)
-  where
-    few : (c : Curve) → tableSum c ≤ 2000000000000000
-    few XBar = lit≤ tt
-    few YBar = lit≤ tt
-    few ZBar = lit≤ tt
-    few XBar10 = lit≤ tt
-    few YBar10 = lit≤ tt
-    few ZBar10 = lit≤ tt
-    few VPrime = lit≤ tt
+curve-sum c = rw (column-total c) (table-sum-small c)
 
 pub lit-total : (i : Illuminant) (c : Curve) → total 471 (litBy i c) ≤ 52320400000000000000000
 unfolding weighted

@@ -1,13 +1,14 @@
--- What is promised of the tables: length, exact sum and largest entry of each, that no digit is lost, and the printed sums.
+-- What is promised of the tables: length, exact sum and largest entry of each, the sums under an illuminant, that no digit is lost,
+-- and the printed sums.
 use mathlib.Core.Path.{_≡_}
 use mathlib.Core.List.{List}
 use Prim.Native.Nat.{ℕ, _≤_}
 use lib.ListN.{getD}
 use Rattle.mixing.specs.Nearest.{nearest}
-use Rattle.tables.specs.Curves.{table, powers, weightOf}
-use Rattle.tables.specs.Columns.{largest, Column, tableSum, tableTop, powersSum, powersTop}
+use Rattle.tables.specs.Curves.{table, powers, weightOf, litBy}
+use Rattle.tables.specs.Columns.{largest, Column, tableSum, tableTop, powersSum, powersTop, litSum}
 use Rattle.tables.specs.Held.{units, inUnits, valueOf}
-use Rattle.mixing.specs.Sum.{sumOf}
+use Rattle.mixing.specs.Sum.{total, sumOf}
 use Rattle.tables.specs.Tables.{xBar, yBar, zBar, xBar10, yBar10, zBar10}
 use Rattle.tables.specs.declared.Curve.{Curve}
 use Rattle.tables.specs.declared.Illuminant.{Illuminant}
@@ -21,6 +22,7 @@ pub record Columns : Type 0 where
   pub bounded : (xs : List ℕ) (k : ℕ) → getD xs k 0 ≤ largest xs
   pub column : (c : Curve) → Column (table c) (tableSum c) (tableTop c)
   pub powers-column : (i : Illuminant) → Column (powers i) (powersSum i) (powersTop i)
+  pub lit : (i : Illuminant) (c : Curve) → total 471 (litBy i c) ≡ litSum i c
   -- the code holds a curve's table in units, and no digit is lost
   pub no-digit-lost : (c : Curve) (k : ℕ) → valueOf (units c) (inUnits c) k ≡ weightOf c k
   -- 106.865469489595, 106.856917101172 and 106.892251278636 are printed for 1931

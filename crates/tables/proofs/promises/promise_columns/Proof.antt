@@ -4,6 +4,7 @@ use Rattle.tables.specs.Curves.{table}
 use Rattle.tables.specs.declared.Curve.the-variants.{XBar, YBar, ZBar, XBar10, YBar10, ZBar10}
 use Rattle.tables.proofs.Largest.{at-most-largest}
 use Rattle.tables.proofs.Columns.{column, powers-column}
+use Rattle.tables.proofs.Lit.{lit-sum}
 use Rattle.tables.proofs.Held.{weighs}
 use Rattle.tables.proofs.promises.promise_columns.Statement.{statement}
 use Rattle.tables.proofs.promises.promise_columns.Tie as tie
@@ -15,6 +16,7 @@ returns c =
       bounded = at-most-largest;
       column = column;
       powers-column = powers-column;
+      lit = lit-sum;
       no-digit-lost = weighs;
       x̄-printed = rw (column XBar .adds-up);
       ȳ-printed = rw (column YBar .adds-up);

@@ -1,4 +1,4 @@
--- The four white sums, illuminant times ȳ at each place, computed over the whole tables.
+-- What illuminant times curve adds up to, computed over each two whole tables.
 use mathlib.Core.Path.{_≡_, refl, sym, _∙_, ap}
 use mathlib.Core.List.{List, [], _∷_}
 use Prim.Native.Nat.{ℕ, _+_, _*_}
@@ -6,10 +6,11 @@ use native.Mathlib.Omega.{arith}
 use lib.ListN.{length, getD}
 use Rattle.mixing.specs.Sum.{total}
 use Rattle.mixing.proofs.Sum.{total-first}
-use Rattle.tables.specs.Tables.{yBar, yBar10, illuminantA, illuminantD65}
+use Rattle.tables.specs.Tables.{xBar, yBar, zBar, xBar10, yBar10, zBar10, vPrime, illuminantA, illuminantD65}
 use Rattle.tables.specs.Curves.{table, powers, litBy}
+use Rattle.tables.specs.Columns.{litSum}
 use Rattle.tables.specs.declared.Curve.{Curve}
-use Rattle.tables.specs.declared.Curve.the-variants.{YBar, YBar10}
+use Rattle.tables.specs.declared.Curve.the-variants.{XBar, YBar, ZBar, XBar10, YBar10, ZBar10, VPrime}
 use Rattle.tables.specs.declared.Illuminant.{Illuminant}
 use Rattle.tables.specs.declared.Illuminant.the-variants.{A, D65}
 use Rattle.tables.proofs.Columns.{column, powers-column}
@@ -28,7 +29,7 @@ total-products (x ∷ xs) (y ∷ ys) e =
     total-first (length xs) (λ k. getD (x ∷ xs) k 0 * getD (y ∷ ys) k 0)
     ∙ ap (λ (z : ℕ). x * y + z) (total-products xs ys (omega arith))
 
-abbrev sumUnder : Illuminant → Curve → ℕ
+abbrev pub sumUnder : Illuminant → Curve → ℕ
 sumUnder i c = total 471 (litBy i c)
 
 -- over the two lists it is computed in one walk
@@ -37,18 +38,19 @@ in-one-walk i c =
     let long = powers-column i .entries in
     rw long at (total-products (powers i) (table c) (long ∙ sym (column c .entries)))
 
-pub a-white : sumUnder A YBar ≡ 10789559695313886949330
-unfolding productsOf table powers yBar illuminantA
-a-white = in-one-walk A YBar
-
-pub a-white-10 : sumUnder A YBar10 ≡ 11379260143253935908460
-unfolding productsOf table powers yBar10 illuminantA
-a-white-10 = in-one-walk A YBar10
-
-pub d65-white : sumUnder D65 YBar ≡ 10567081666988122222240
-unfolding productsOf table powers yBar illuminantD65
-d65-white = in-one-walk D65 YBar
-
-pub d65-white-10 : sumUnder D65 YBar10 ≡ 11620348647650694114000
-unfolding productsOf table powers yBar10 illuminantD65
-d65-white-10 = in-one-walk D65 YBar10
+pub lit-sum : (i : Illuminant) (c : Curve) → sumUnder i c ≡ litSum i c
+unfolding productsOf table powers xBar yBar zBar xBar10 yBar10 zBar10 vPrime illuminantA illuminantD65
+lit-sum A XBar = in-one-walk A XBar
+lit-sum A YBar = in-one-walk A YBar
+lit-sum A ZBar = in-one-walk A ZBar
+lit-sum A XBar10 = in-one-walk A XBar10
+lit-sum A YBar10 = in-one-walk A YBar10
+lit-sum A ZBar10 = in-one-walk A ZBar10
+lit-sum A VPrime = in-one-walk A VPrime
+lit-sum D65 XBar = in-one-walk D65 XBar
+lit-sum D65 YBar = in-one-walk D65 YBar
+lit-sum D65 ZBar = in-one-walk D65 ZBar
+lit-sum D65 XBar10 = in-one-walk D65 XBar10
+lit-sum D65 YBar10 = in-one-walk D65 YBar10
+lit-sum D65 ZBar10 = in-one-walk D65 ZBar10
+lit-sum D65 VPrime = in-one-walk D65 VPrime
