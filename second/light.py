@@ -15,7 +15,8 @@ from pathlib import Path
 WAVELENGTHS = range(360, 831)
 STEPS = (1, 2, 5, 10)
 
-# The refusal numbers, by the rules' names.
+# The refusal numbers, by the rules' names. 15 is not used: it stood for a
+# reading past 32 bits, and none can be that great.
 (
     STEP,
     START,
@@ -31,13 +32,11 @@ STEPS = (1, 2, 5, 10)
     LENGTH,
     PADDING,
     ROOM,
-    OVERRANGE,
-) = range(1, 16)
+) = range(1, 15)
 
 LARGEST_SAMPLE = 1_000_000
 LARGEST_REFLECTANCE = 10_000
 LARGEST_K = 1000
-LARGEST_READING = 4_294_967_295
 LARGEST_COUNT = 531
 LONGEST_INPUT = 1_332
 
@@ -108,12 +107,6 @@ def refuse_panel(observer, illuminant, start, step, reflectances):
     )
 
 
-def refuse_overrange(*readings):
-    if max(readings) > LARGEST_READING:
-        return Refused(OVERRANGE)
-    return None
-
-
 # The rules' sums and their rounding.
 
 
@@ -179,8 +172,7 @@ def illuminance(efficacy, weights, start, step, samples):
     if refused := refuse_light(start, step, samples):
         return refused
     row = t_row(start, step, samples)
-    reading = nearest(efficacy * weigh(weights, row), step * SCALE)
-    return refuse_overrange(reading) or reading
+    return nearest(efficacy * weigh(weights, row), step * SCALE)
 
 
 def photopic(start, step, samples):
@@ -206,8 +198,7 @@ def mesopic(k, start, step, samples):
         return refused
     row = t_row(start, step, samples)
     mixed = k * weigh(V, row) + (1000 - k) * weigh(V_PRIME, row)
-    reading = nearest(683_000 * mixed, step * SCALE * (1000 * k + 402 * (1000 - k)))
-    return refuse_overrange(reading) or reading
+    return nearest(683_000 * mixed, step * SCALE * (1000 * k + 402 * (1000 - k)))
 
 
 def xyz(observer, start, step, samples):
@@ -218,8 +209,7 @@ def xyz(observer, start, step, samples):
         return refused
     efficacy = OBSERVERS[observer][0]
     sums = light_sums(observer, start, step, samples)
-    readings = tuple(nearest(efficacy * each, step * SCALE) for each in sums)
-    return refuse_overrange(*readings) or readings
+    return tuple(nearest(efficacy * each, step * SCALE) for each in sums)
 
 
 def xy(observer, start, step, samples):
@@ -238,11 +228,10 @@ def chart(observer, start, step, samples):
 
 def figures(start, step, samples):
     """Photopic, scotopic, X, Y, Z and, last, (x, y) or "dark", all for observer 2."""
+    if refused := refuse_light(start, step, samples):
+        return refused
     readings = photopic(start, step, samples), scotopic(start, step, samples)
     tristimulus = xyz(2, start, step, samples)
-    for answer in (*readings, tristimulus):
-        if isinstance(answer, Refused):
-            return answer
     colour = xy(2, start, step, samples)
     return *readings, *tristimulus, "dark" if colour == Refused(DARK) else colour
 
@@ -258,8 +247,7 @@ def panel_xyz(observer, illuminant, start, step, reflectances):
     # The white runs over 360 to 830 whatever the panel's own range.
     white = weigh(y_weights, ILLUMINANTS[illuminant])
     sums = panel_sums(observer, illuminant, start, step, reflectances)
-    readings = tuple(nearest(10 * each, step * white) for each in sums)
-    return refuse_overrange(*readings) or readings
+    return tuple(nearest(10 * each, step * white) for each in sums)
 
 
 def panel_xy(observer, illuminant, start, step, reflectances):

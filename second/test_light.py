@@ -5,6 +5,8 @@
 
 import random
 import unittest
+from itertools import product
+from operator import mul
 
 import light
 from light import Refused
@@ -214,20 +216,6 @@ class Readings(unittest.TestCase):
             self.assertEqual(light.xyz(2, *given)[1], light.photopic(*given))
             self.assertEqual(light.xyz(10, *given)[1], light.photopic_10(*given))
 
-    def test_no_reading_is_near_refusal_15(self):
-        given = 360, 1, [FULL] * 471
-        largest = [
-            light.photopic(*given),
-            light.scotopic(*given),
-            light.photopic_10(*given),
-            light.mesopic(0, *given),
-            *light.xyz(2, *given),
-            *light.xyz(10, *given),
-        ]
-        self.assertLess(max(largest), 200_000_000)
-        self.assertIsNone(light.refuse_overrange(0, 4_294_967_295))
-        self.assertEqual(light.refuse_overrange(0, 4_294_967_296), Refused(15))
-
 
 class Panels(unittest.TestCase):
     def test_full_white(self):
@@ -263,6 +251,98 @@ class Panels(unittest.TestCase):
         self.assertEqual(light.panel_xyz(2, 1, *black), (0, 0, 0))
         self.assertEqual(light.panel_xy(2, 1, *black), Refused(9))
         self.assertEqual(light.panel_chart(2, 1, *black), "dark")
+
+
+# The greatest that each reading could be, from the sums of the tables and the
+# limits alone: W is at most s times the limit times the sum of the weights. The
+# s is left out, since the divisor has it too. What an observer or an illuminant
+# is stands here again, so that a slip in light.py shows.
+
+OBSERVERS = {
+    2: (683, (light.X, light.Y, light.Z)),
+    10: (684, (light.X10, light.Y10, light.Z10)),
+}
+ILLUMINANTS = {1: light.A, 2: light.D65}
+
+
+def greatest_illuminance(efficacy, weights):
+    return light.nearest(efficacy * FULL * sum(weights), 10**16)
+
+
+def greatest_mesopic(k):
+    mixed = k * sum(light.V) + (1000 - k) * sum(light.V_PRIME)
+    return light.nearest(683_000 * FULL * mixed, 10**16 * (1000 * k + 402 * (1000 - k)))
+
+
+def greatest_xyz(observer):
+    efficacy, functions = OBSERVERS[observer]
+    return tuple(greatest_illuminance(efficacy, weights) for weights in functions)
+
+
+def greatest_panel_xyz(observer, illuminant):
+    # A panel's weights are the illuminant times the function.
+    power = ILLUMINANTS[illuminant]
+    sums = [sum(map(mul, power, weights)) for weights in OBSERVERS[observer][1]]
+    white = sums[1]
+    return tuple(light.nearest(10 * 10_000 * each, white) for each in sums)
+
+
+class Greatest(unittest.TestCase):
+    """Why no reading is refused for being too great."""
+
+    def test_no_t_is_above_s_times_the_limit(self):
+        # T only rises with the samples, so full rows are enough.
+        for step in light.STEPS:
+            for start in range(300, 381):
+                row = light.t_row(start, step, [FULL] * ((830 - start) // step + 1))
+                self.assertEqual(max(row), step * FULL)
+
+    def test_the_full_light_attains_them(self):
+        for step in light.STEPS:
+            full = 360, step, [FULL] * (470 // step + 1)
+            with self.subTest(step=step):
+                self.assertEqual(light.photopic(*full), greatest_illuminance(683, light.V))
+                self.assertEqual(light.scotopic(*full), greatest_illuminance(1700, light.V_PRIME))
+                self.assertEqual(light.photopic_10(*full), greatest_illuminance(684, light.V10))
+                for k in (0, 500, 1000):
+                    self.assertEqual(light.mesopic(k, *full), greatest_mesopic(k))
+                for observer in OBSERVERS:
+                    self.assertEqual(light.xyz(observer, *full), greatest_xyz(observer))
+
+    def test_the_white_panel_attains_them(self):
+        for step in light.STEPS:
+            white = 360, step, [10_000] * (470 // step + 1)
+            for setting in product(OBSERVERS, ILLUMINANTS):
+                with self.subTest(step=step, setting=setting):
+                    self.assertEqual(
+                        light.panel_xyz(*setting, *white), greatest_panel_xyz(*setting)
+                    )
+
+    def test_the_greatest_illuminances(self):
+        self.assertEqual(greatest_illuminance(683, light.V), 72_983_274)
+        self.assertEqual(greatest_illuminance(1700, light.V_PRIME), 165_021_238)
+        self.assertEqual(greatest_illuminance(684, light.V10), 79_796_724)
+
+    def test_the_largest_of_all_is_below_2_to_the_32(self):
+        largest = max(
+            greatest_illuminance(683, light.V),
+            greatest_illuminance(1700, light.V_PRIME),
+            greatest_illuminance(684, light.V10),
+            *map(greatest_mesopic, range(1001)),
+            *greatest_xyz(2),
+            *greatest_xyz(10),
+            *greatest_panel_xyz(2, 1),
+            *greatest_panel_xyz(2, 2),
+            *greatest_panel_xyz(10, 1),
+            *greatest_panel_xyz(10, 2),
+        )
+        self.assertLess(largest, 2**32)
+
+    def test_mesopic_of_the_full_light_is_never_above_that_at_k_0(self):
+        # This is so for the full light; a red one has more at k = 1000.
+        full = 360, 1, [FULL] * 471
+        for k in range(1001):
+            self.assertLessEqual(light.mesopic(k, *full), light.mesopic(0, *full))
 
 
 class Refusals(unittest.TestCase):
