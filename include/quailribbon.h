@@ -37,8 +37,8 @@ enum {
     QR_RESERVED = 11,    /* the record's reserved bit is 1 */
     QR_LENGTH = 12,      /* the record isn't as long as its header calls for */
     QR_PADDING = 13,     /* a padding bit of the record is 1 */
-    QR_ROOM = 14,        /* the lent memory is too short */
-    QR_OVERRANGE = 15    /* a reading above 4,294,967,295 */
+    QR_ROOM = 14         /* the lent memory is too short */
+    /* 15 is not used */
 };
 
 enum {

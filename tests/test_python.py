@@ -141,7 +141,7 @@ class Records(Case):
 
 
 class Refusals(Case):
-    """Each number that a caller can meet. The room (14) always suffices here, and no reading is too large (15)."""
+    """Each number that a caller can meet. The room (14) always suffices here, and 15 is not used."""
 
     def test_step(self):
         self.assertRefused(1, quailribbon.photopic, 380, 3, example())

@@ -76,7 +76,7 @@ NAMES: dict[int, str] = {
     12: "LENGTH",
     13: "PADDING",
     14: "ROOM",
-    15: "OVERRANGE",
+    # 15 is not used
 }
 
 

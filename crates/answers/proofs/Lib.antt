@@ -1,5 +1,4 @@
 -- Laws of answers that are worked from sums.
-pub mod Fitting
 pub mod Values
 pub mod Mixed
 pub mod FromSums

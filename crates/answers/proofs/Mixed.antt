@@ -11,68 +11,35 @@ use Rattle.mixing.specs.Promises.{Differ, Between}
 use Rattle.mixing.proofs.Mixture.{linear-plus, linear-times}
 use Rattle.mixing.proofs.Illuminance.{illuminance}
 use Rattle.mixing.proofs.Coordinate.{between}
-use Rattle.answers.specs.Worked.{readingFrom, xyzFrom, xyFrom}
+use Rattle.answers.specs.Worked.{xyFrom}
 use Rattle.grid.specs.Refusals.{DARK}
 use Rattle.grid.specs.Said.{Said, value}
-use Rattle.answers.specs.Said.{saidReading, saidXyz, saidXy}
-use Rattle.answers.proofs.Values.{reading-values, xyz-values, xy-lit, xy-dark, xy-given}
+use Rattle.answers.specs.Said.{saidXy}
+use Rattle.answers.proofs.Values.{xy-lit, xy-dark, xy-given}
 
 -- each of these sums is linear
-abbrev AllLinear : ℕ → List (List ℕ → ℕ) → Type 0
+abbrev pub AllLinear : ℕ → List (List ℕ → ℕ) → Type 0
 AllLinear n [] = Unit {0}
 AllLinear n (F ∷ Fs) = Linear n F × AllLinear n Fs
 
 -- the nearest quotient of each
-abbrev quotients : List (List ℕ → ℕ) → ℕ → List ℕ → List ℕ
+abbrev pub quotients : List (List ℕ → ℕ) → ℕ → List ℕ → List ℕ
 quotients [] d xs = []
 quotients (F ∷ Fs) d xs = nearest (F xs) d ∷ quotients Fs d xs
 
 module _ (n d : ℕ) (pos : 0 < d) (xs ys : List ℕ) (p : length xs ≡ n) (q : length ys ≡ n) where
-  unit :
+  pub unit :
       (Fs : List (List ℕ → ℕ)) → AllLinear n Fs → (i : ℕ) →
       Differ 1 (getD (quotients Fs d (mix xs ys)) i 0) (getD (quotients Fs d xs) i 0 + getD (quotients Fs d ys) i 0)
   unit [] l i = record { above = omega arith; below = omega arith }
   unit (F ∷ Fs) l zero = illuminance n d F (l .0) pos .two xs ys p q
   unit (F ∷ Fs) l (suc i) = unit Fs (l .1) i
 
-  order :
+  pub order :
       (Fs : List (List ℕ → ℕ)) → AllLinear n Fs → Below xs ys → (i : ℕ) → getD (quotients Fs d xs) i 0 ≤ getD (quotients Fs d ys) i 0
   order [] l b i = zero-le
   order (F ∷ Fs) l b zero = illuminance n d F (l .0) pos .order xs ys p q b
   order (F ∷ Fs) l b (suc i) = order Fs (l .1) b i
-
-  module _ (F : List ℕ → ℕ) (lin : Linear n F) where
-    abbrev reading : List ℕ → Said
-    reading zs = saidReading (readingFrom (F zs) d)
-
-    pub reading-unit :
-        reading xs .number ≡ 0 → reading ys .number ≡ 0 → reading (mix xs ys) .number ≡ 0 → (i : ℕ) →
-        Differ 1 (value (reading (mix xs ys)) i) (value (reading xs) i + value (reading ys) i)
-    reading-unit e f g i =
-        rw (reading-values (F xs) d e, reading-values (F ys) d f, reading-values (F (mix xs ys)) d g) (unit (F ∷ []) (lin, tt) i)
-
-    pub reading-order :
-        Below xs ys → reading xs .number ≡ 0 → reading ys .number ≡ 0 → (i : ℕ) → value (reading xs) i ≤ value (reading ys) i
-    reading-order b e f i = rw (reading-values (F xs) d e, reading-values (F ys) d f) (order (F ∷ []) (lin, tt) b i)
-
-  module _ (F G H : List ℕ → ℕ) (f : Linear n F) (g : Linear n G) (h : Linear n H) where
-    abbrev xyz : List ℕ → Said
-    xyz zs = saidXyz (xyzFrom (F zs) (G zs) (H zs) d)
-
-    pub xyz-unit :
-        xyz xs .number ≡ 0 → xyz ys .number ≡ 0 → xyz (mix xs ys) .number ≡ 0 → (i : ℕ) →
-        Differ 1 (value (xyz (mix xs ys)) i) (value (xyz xs) i + value (xyz ys) i)
-    xyz-unit j k l i =
-        rw (
-          xyz-values (F xs) (G xs) (H xs) d j,
-          xyz-values (F ys) (G ys) (H ys) d k,
-          xyz-values (F (mix xs ys)) (G (mix xs ys)) (H (mix xs ys)) d l,
-        )
-        (unit (F ∷ G ∷ H ∷ []) (f, (g, (h, tt))) i)
-
-    pub xyz-order : Below xs ys → xyz xs .number ≡ 0 → xyz ys .number ≡ 0 → (i : ℕ) → value (xyz xs) i ≤ value (xyz ys) i
-    xyz-order b j k i =
-        rw (xyz-values (F xs) (G xs) (H xs) d j, xyz-values (F ys) (G ys) (H ys) d k) (order (F ∷ G ∷ H ∷ []) (f, (g, (h, tt))) b i)
 
 module _
     (n : ℕ) (F G H : List ℕ → ℕ) (f : Linear n F) (g : Linear n G) (h : Linear n H) (xs ys : List ℕ) (p : length xs ≡ n)
@@ -91,7 +58,7 @@ module _
     divisor-mixed = divisor-linear .adds xs ys p q
 
     pub xy-between :
-        xy xs .number ≡ 0 → xy ys .number ≡ 0 →
+        (xy xs .number ≡ DARK → ⊥) → (xy ys .number ≡ DARK → ⊥) →
         (xy (mix xs ys) .number ≡ 0) × ((i : ℕ) → Between (value (xy xs) i) (value (xy ys) i) (value (xy (mix xs ys)) i))
     xy-between e e′ =
         let a = xy-lit (F xs) (G xs) (H xs) e in

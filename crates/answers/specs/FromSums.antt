@@ -5,6 +5,7 @@ use Prim.Native.Nat.{ℕ, _+_, _^_, _<_}
 use Rattle.grid.specs.declared.Check.{Check}
 use Rattle.grid.specs.declared.Check.the-variants.{Fine}
 use Rattle.exact.specs.Value.{short}
+use Rattle.exact.specs.Fits.{Fits}
 use Rattle.tables.specs.declared.Curve.{Curve}
 use Rattle.curves.specs.declared.weigh.Sums.{Sums}
 use Rattle.curves.specs.Observer.{SumsBy}
@@ -22,6 +23,12 @@ Summed check o by (SumsAnswer.Refused refusal) = check ≡ Check.Refused refusal
 abbrev pub ShortTotal : SumsAnswer → Type 0
 ShortTotal answer =
     (sums : Sums) → answer ≡ SumsAnswer.Given sums → short (sums .x) + short (sums .y) + short (sums .z) < 2 ^ 96
+
+-- X, Y, Z of three sums over d are numbers of 32 bits
+pub record XyzFit (x y z d : ℕ) : Type 0 where
+  pub x-fits : Fits x d
+  pub y-fits : Fits y d
+  pub z-fits : Fits z d
 
 -- x and y from the sums, or their refusal
 unfoldable pub xySummed : SumsAnswer → XyAnswer

@@ -1,33 +1,21 @@
 -- What exact sums give: nearest quotients, coordinates, and the chart's floats.
-use mathlib.Core.Bool.{Bool, cond, _&&_}
+use mathlib.Core.Bool.{cond}
 use Prim.Native.Nat.{ℕ, _+_, _*_}
 use lib.IntN.{pos}
 use lib.Ieee.{Float, binary64, div, ofInt}
-use lib.Dec.{leb, eqb}
-use Rattle.grid.specs.Refusals.{DARK, OVERRANGE}
+use lib.Dec.{eqb}
+use Rattle.grid.specs.Refusals.{DARK}
 use Rattle.grid.specs.Check.{refusal}
 use Rattle.mixing.specs.Nearest.{nearest}
-use Rattle.answers.specs.declared.Reading.{Reading}
-use Rattle.answers.specs.declared.XyzAnswer.{XyzAnswer}
+use Rattle.answers.specs.declared.Xyz.{Xyz}
 use Rattle.answers.specs.declared.XyAnswer.{XyAnswer}
 use Rattle.answers.specs.declared.Xy.{Xy}
 use Rattle.answers.specs.declared.ChartPoint.{ChartPoint}
 use Rattle.answers.specs.declared.OnChart.{OnChart}
 
--- a rounded reading fits where it is not above 4,294,967,295
-abbrev pub isFitting : ℕ → Bool
-isFitting q = leb q 4294967295
-
--- the nearest of n / d, or OVERRANGE
-unfoldable pub readingFrom : ℕ → ℕ → Reading
-readingFrom n d = cond (isFitting (nearest n d)) (Reading.Value (nearest n d)) (Reading.Refused (refusal OVERRANGE 0))
-
--- the nearest of each of x, y, z over d, or OVERRANGE
-unfoldable pub xyzFrom : ℕ → ℕ → ℕ → ℕ → XyzAnswer
-xyzFrom x y z d =
-    cond (isFitting (nearest x d) && isFitting (nearest y d) && isFitting (nearest z d))
-    (XyzAnswer.Value (record { x = nearest x d; y = nearest y d; z = nearest z d }))
-    (XyzAnswer.Refused (refusal OVERRANGE 0))
+-- the nearest of each of x, y, z over d
+abbrev pub xyzFrom : ℕ → ℕ → ℕ → ℕ → Xyz
+xyzFrom x y z d = record { x = nearest x d; y = nearest y d; z = nearest z d }
 
 -- the nearest of 100000 X / (X + Y + Z), and likewise of Y, or DARK where the divisor is 0
 unfoldable pub xyFrom : ℕ → ℕ → ℕ → XyAnswer

@@ -1,9 +1,7 @@
-// What is worked from exact sums: readings, X, Y, Z and coordinates. Each divides once, at the end.
-use crate::Reading;
+// What is worked from exact sums: X, Y, Z and coordinates. Each divides once, at the end.
 use crate::Xy;
 use crate::XyAnswer;
 use crate::Xyz;
-use crate::XyzAnswer;
 use curves::weigh::Sums;
 use exact::digits::Short;
 use exact::digits::short_times_plus;
@@ -11,53 +9,26 @@ use exact::divide::is_zero;
 use exact::divide::nearest;
 use grid::Refusal;
 use grid::refusals::DARK;
-use grid::refusals::OVERRANGE;
 ghost use mathlib.Core.Path.{_≡_};
 ghost use Prim.Native.Nat.{_+_, _*_, _^_, _≤_, _<_};
 ghost use Rattle.mixing.specs.Nearest.{nearest as nearestOf};
 ghost use Rattle.exact.specs.Value.{short};
-ghost use Rattle.answers.specs.Worked.{readingFrom, xyzFrom, xyFrom};
+ghost use Rattle.answers.specs.Worked.{xyzFrom, xyFrom};
+ghost use Rattle.answers.specs.FromSums.{XyzFit};
 
-// The reading n · f / d.
-pub fn reading_from(n: Short, f: u32, d: Short) -> Reading
-    ensures { λ r. ⌜ r ≡ readingFrom (short n * f) (short d) ⌝ }
-{
-    let q = nearest(n, f, d);
-    if q < 4294967296 {
-        Reading::Value(q as u32)
-    } else {
-        Reading::Refused(Refusal {
-            number: OVERRANGE,
-            place: 0,
-        })
-    }
-}
-
-// X, Y and Z, each its sum times f over d.
-pub fn xyz_from(sums: Sums, f: u32, d: Short) -> XyzAnswer
-    ensures { λ r. ⌜ r ≡ xyzFrom (short (sums .x) * f) (short (sums .y) * f) (short (sums .z) * f) (short d) ⌝ }
+// X, Y and Z, each f times its sum over d.
+pub fn xyz_from(f: u32, sums: Sums, d: Short) -> Xyz
+    requires { ⌜ XyzFit (f * short (sums .x)) (f * short (sums .y)) (f * short (sums .z)) (short d) ⌝ }
+    ensures { λ r. ⌜ r ≡ xyzFrom (f * short (sums .x)) (f * short (sums .y)) (f * short (sums .z)) (short d) ⌝ }
 {
     let sum_x = sums.x;
     let sum_y = sums.y;
     let sum_z = sums.z;
-    let x = nearest(sum_x, f, d);
-    let y = nearest(sum_y, f, d);
-    let z = nearest(sum_z, f, d);
-    if x < 4294967296 {
-        if y < 4294967296 {
-            if z < 4294967296 {
-                return XyzAnswer::Value(Xyz {
-                    x: x as u32,
-                    y: y as u32,
-                    z: z as u32,
-                });
-            }
-        }
+    Xyz {
+        x: nearest(f, sum_x, d),
+        y: nearest(f, sum_y, d),
+        z: nearest(f, sum_z, d),
     }
-    XyzAnswer::Refused(Refusal {
-        number: OVERRANGE,
-        place: 0,
-    })
 }
 
 // x and y from the exact sums, or DARK.
@@ -83,8 +54,8 @@ pub fn xy_from(sums: Sums) -> XyAnswer
 
 // A coordinate in hundred-thousandths, of a part and its whole.
 fn coordinate(part: Short, total: Short) -> u32
-    requires { ⌜ short part ≤ short total ⌝ }
+    requires { ⌜ (short part ≤ short total) × (0 < short total) ⌝ }
     ensures { λ r. ⌜ r ≡ nearestOf (100000 * short part) (short total) ⌝ }
 {
-    nearest(part, 100000, total) as u32
+    nearest(100000, part, total)
 }

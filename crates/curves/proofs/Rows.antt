@@ -1,9 +1,9 @@
 -- Laws of a row's weighted sum, by weights that are held in units: one place more, one stretch more, and two rows together.
-use mathlib.Core.Path.{_≡_, _∙_, sym}
+use mathlib.Core.Path.{_≡_, sym}
 use mathlib.Core.Bool.{true}
 use mathlib.Core.List.{List}
-use Prim.Native.Nat.{ℕ, suc, _+_, _*_, _-_, _%_, _^_, _≤_, _<_}
-use native.Mathlib.Nat.{mod-eq-of-lt, le-refl, le-trans, mul-le-mul-left, mul-comm, mul-left-comm, add-mul}
+use Prim.Native.Nat.{ℕ, suc, _+_, _*_, _-_, _^_, _≤_, _<_}
+use native.Mathlib.Nat.{le-refl, le-trans, mul-le-mul-left, mul-comm, mul-left-comm, add-mul}
 use native.Mathlib.Decide.{le-ind}
 use native.Mathlib.Omega.{arith}
 use Rattle.grid.specs.Check.{Within}
@@ -55,24 +55,28 @@ module _ (u : Units) (weights : List ℕ) (held : Held u weights) where
   full-most : (row : List ℕ) → Within 10000000 row → (n : ℕ) → n ≤ 471 → weighted n (valueOf u weights) (entryOf row) ≤ 20000000000000000000000
   full-most row small n l = le-trans (weighted-bound 10000000 n 471 (valueOf u weights) (entryOf row) small l) (mul-le-mul-left 10000000 (held .full))
 
-  -- one stretch more brings the sum at full value to the stretch's end, and it passes no 96 bits
-  pub one-stretch-more :
-      (row : List ℕ) → Within 10000000 row → (p begin end before after : ℕ) → begin ≤ end → end ≤ 471 →
-      ((k : ℕ) → begin ≤ k → k < end → unitAt u k ≡ p) →
-      before ≡ weighted begin (valueOf u weights) (entryOf row) →
-      after ≡ (stretchSum weights row begin end * p + before) % 2 ^ 96 →
-      after ≡ weighted end (valueOf u weights) (entryOf row)
-  one-stretch-more row small p begin end before after b e same is now =
-      let most = full-most row small end e in
-      rw (now, is, onward p begin (unitAt u) (entryOf weights) (entryOf row) end b same) (mod-eq-of-lt (omega arith))
+  -- the sum at full value up to a place is a number of 96 bits
+  pub full-short : (row : List ℕ) → Within 10000000 row → (n : ℕ) → n ≤ 471 → weighted n (valueOf u weights) (entryOf row) < 2 ^ 96
+  full-short row small n l = let most = full-most row small n l in omega arith
 
-  -- two rows' sums, the first times 2^21, make the sum of their line, which passes no 96 bits
-  pub both-rows :
-      (high low : List ℕ) → Within 10000000 high → Within 10000000 low → (upper lower : ℕ) →
-      upper ≡ weighted 471 (valueOf u weights) (entryOf high) → lower ≡ weighted 471 (valueOf u weights) (entryOf low) →
-      (upper * 2 ^ 21 + lower) % 2 ^ 96 ≡ weighted 471 (valueOf u weights) (lineOf true high low)
-  both-rows high low p q upper lower is-upper is-lower =
-      let a = full-most high p 471 (le-refl 471) in
-      let b = full-most low q 471 (le-refl 471) in
-      let fit : upper * 2 ^ 21 + lower < 2 ^ 96 = omega arith in
-      mod-eq-of-lt fit ∙ (rw (is-upper, is-lower) (sym (weighted-joined (2 ^ 21) 471 (valueOf u weights) (entryOf high) (entryOf low))))
+  -- one stretch more brings it to the stretch's end
+  pub one-stretch-more :
+      (row : List ℕ) (p begin end before : ℕ) → begin ≤ end → ((k : ℕ) → begin ≤ k → k < end → unitAt u k ≡ p) →
+      before ≡ weighted begin (valueOf u weights) (entryOf row) →
+      stretchSum weights row begin end * p + before ≡ weighted end (valueOf u weights) (entryOf row)
+  one-stretch-more row p begin end before b same is = rw is (onward p begin (unitAt u) (entryOf weights) (entryOf row) end b same)
+
+  module _
+      (high low : List ℕ) (upper lower : ℕ) (is-upper : upper ≡ weighted 471 (valueOf u weights) (entryOf high))
+      (is-lower : lower ≡ weighted 471 (valueOf u weights) (entryOf low))
+    where
+      -- two rows' sums, the first times 2^21, make the sum of their line
+      pub both-rows : upper * 2 ^ 21 + lower ≡ weighted 471 (valueOf u weights) (lineOf true high low)
+      both-rows = rw (is-upper, is-lower) (sym (weighted-joined (2 ^ 21) 471 (valueOf u weights) (entryOf high) (entryOf low)))
+
+      -- which is a number of 96 bits
+      pub both-short : Within 10000000 high → Within 10000000 low → upper * 2 ^ 21 + lower < 2 ^ 96
+      both-short p q =
+          let a = full-most high p 471 (le-refl 471) in
+          let b = full-most low q 471 (le-refl 471) in
+          omega arith

@@ -19,7 +19,7 @@ use tables::y_bar_10;
 use tables::z_bar;
 use tables::z_bar_10;
 ghost use mathlib.Core.Path.{_≡_};
-ghost use Prim.Native.Nat.{_+_, _*_, _%_, _^_};
+ghost use Prim.Native.Nat.{_+_, _*_, _^_, _<_};
 ghost use Rattle.exact.specs.Value.{short};
 ghost use Rattle.grid.specs.Check.{Within};
 ghost use Rattle.mixing.specs.Sum.{weighted, entryOf};
@@ -102,8 +102,8 @@ fn with_stretch(
     end: usize,
     unit: u32,
 ) -> Short
-    requires { ⌜ Stretched begin end (now weights) × Within 10000000 (now row) ⌝ }
-    ensures { λ r. ⌜ short r ≡ (stretchSum (now (weights .entry)) (now (row .entry)) begin end * unit + short before) % 2 ^ 96 ⌝ }
+    requires { ⌜ Stretched begin end (now weights) × Within 10000000 (now row) × (stretchSum (now weights) (now row) begin end * unit + short before < 2 ^ 96) ⌝ }
+    ensures { λ r. ⌜ short r ≡ stretchSum (now (weights .entry)) (now (row .entry)) begin end * unit + short before ⌝ }
 {
     let mut sum: u64 = 0;
     for k in begin..end {

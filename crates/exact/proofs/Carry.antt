@@ -1,18 +1,10 @@
--- Laws of numbers in digits, over any base: carrying, dropping what passes the third digit, and long division.
+-- Laws of numbers in digits, over any base: carrying, and long division.
 use mathlib.Core.Path.{_≡_, _∙_, sym, ap}
-use Prim.Native.Nat.{ℕ, _+_, _*_, _/_, _%_, _≤_, _<_}
-use native.Mathlib.Nat.{div-add-mod', mod-lt, mod-eq-of-lt, mul-add-mod-self-right, mul-add-mod-self-left, mul-add-div, mul-le-mul-right, div-lt-iff-lt-mul}
+use Prim.Native.Nat.{ℕ, _+_, _*_, _/_, _%_, _<_}
+use native.Mathlib.Nat.{div-add-mod', mul-add-mod-self-left, mul-add-div}
 use native.Mathlib.Omega.{arith}
 
--- two digits below their bases make a number below the product
-below-product : (x y a b : ℕ) → x < a → y < b → x * b + y < a * b
-below-product x y a b p q = let h : (x + 1) * b ≤ a * b = mul-le-mul-right b (omega arith) in omega arith
-
--- a digit of zero below two others moves them up
-pub shift : (B x y z : ℕ) → (x * B + y) * (B * B) + z * B ≡ ((x * B + y) * B + z) * B
-shift B x y z = omega arith
-
-module _ (B : ℕ) (pos : 0 < B) where
+module _ (B : ℕ) where
   -- what passes a digit is carried to the one above it
   carry : (x y : ℕ) → (x + y / B) * B + y % B ≡ x * B + y
   carry x y = omega (arith, div-add-mod' y B)
@@ -26,31 +18,17 @@ module _ (B : ℕ) (pos : 0 < B) where
       let whole = ap (λ (n : ℕ). n * B) (div-add-mod' middle B ∙ q) in
       omega (arith, div-add-mod' low B, ap (λ (n : ℕ). n * (B * B)) r)
 
-  -- the high digit keeps what is below the base
-  drop-top : (x y z : ℕ) → y < B → z < B → (x % B * B + y) * B + z ≡ ((x * B + y) * B + z) % (B * B * B)
-  drop-top x y z p q =
-      let rest : ℕ = (x % B * B + y) * B + z in
-      let small : rest < B * B * B =
-      below-product (x % B * B + y) z (B * B) B (below-product (x % B) y B B (mod-lt x pos) p) q in
-      let whole : (x * B + y) * B + z ≡ x / B * (B * B * B) + rest = omega (arith, ap (λ (n : ℕ). n * (B * B)) (div-add-mod' x B)) in
-      sym (ap (λ (n : ℕ). n % (B * B * B)) whole ∙ mul-add-mod-self-right (x / B) (B * B * B) rest ∙ mod-eq-of-lt small)
-
   -- two numbers that are not reduced, as three digits
   pub joined :
       (x y : ℕ) →
-      let middle = x % B + y / B in
-      ((x / B + middle / B) % B * B + middle % B) * B + y % B ≡ (x * B + y) % (B * B * B)
+      let middle = x % B + y / B in ((x / B + middle / B) * B + middle % B) * B + y % B ≡ x * B + y
   joined x y =
       let middle : ℕ = x % B + y / B in
-      drop-top (x / B + middle / B) (middle % B) (y % B) (mod-lt middle pos) (mod-lt y pos)
-      ∙ ap (λ (n : ℕ). (n * B + y % B) % (B * B * B)) (omega (arith, div-add-mod' middle B, div-add-mod' x B))
-      ∙ ap (λ (n : ℕ). n % (B * B * B)) (carry x y)
+      ap (λ (n : ℕ). n * B + y % B) (omega (arith, div-add-mod' middle B, div-add-mod' x B)) ∙ carry x y
 
   -- two digits of twice the width, as three
-  pub narrow : (x y : ℕ) → y < B * B → (x % B * B + y / B) * B + y % B ≡ (x * (B * B) + y) % (B * B * B)
-  narrow x y p =
-      drop-top x (y / B) (y % B) (div-lt-iff-lt-mul pos .1 p) (mod-lt y pos)
-      ∙ ap (λ (n : ℕ). n % (B * B * B)) (carry (x * B) y ∙ omega arith)
+  pub narrow : (x y : ℕ) → (x * B + y / B) * B + y % B ≡ x * (B * B) + y
+  narrow x y = carry (x * B) y ∙ omega arith
 
   -- long division by k: what a digit leaves goes to the one below it
   apart : (k x y : ℕ) → x * B + y ≡ k * (x / k * B) + (x % k * B + y)

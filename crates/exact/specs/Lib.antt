@@ -1,2 +1,3 @@
 -- Definitions of the crate `exact`.
 pub mod Value
+pub mod Fits

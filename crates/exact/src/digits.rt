@@ -1,6 +1,6 @@
 // Numbers in digits of 32 bits, and their sums and products.
 ghost use mathlib.Core.Path.{_≡_};
-ghost use Prim.Native.Nat.{_+_, _*_, _/_, _%_, _^_, _<_};
+ghost use Prim.Native.Nat.{_+_, _*_, _/_, _^_, _<_};
 ghost use Rattle.exact.specs.Value.{short, long};
 
 // A number below 2^96, in three digits of 32 bits.
@@ -16,14 +16,14 @@ pub struct Long {
     pub low: u64,
 }
 
-// high · 2^32 + low, where neither is reduced; what passes 96 bits is dropped.
+// high · 2^32 + low, where neither is reduced. With high below 2^63 they need no more than three digits.
 pub fn joined(high: u64, low: u64) -> Short
-    ensures { λ r. ⌜ short r ≡ (high * 2 ^ 32 + low) % 2 ^ 96 ⌝ }
+    requires { ⌜ high < 2 ^ 63 ⌝ }
+    ensures { λ r. ⌜ short r ≡ high * 2 ^ 32 + low ⌝ }
 {
     let middle = high % 4294967296 + low / 4294967296;
-    let top = high / 4294967296 + middle / 4294967296;
     Short {
-        high: (top % 4294967296) as u32,
+        high: (high / 4294967296 + middle / 4294967296) as u32,
         middle: (middle % 4294967296) as u32,
         low: (low % 4294967296) as u32,
     }
@@ -50,20 +50,22 @@ fn digit(a: u32, f: u32, b: u32, carried: u64) -> u64
     (a as u64) * (f as u64) + (b as u64) + carried
 }
 
-// A number without what passes 96 bits.
+// A number that needs no more than three digits.
 fn narrow(a: Long) -> Short
-    ensures { λ r. ⌜ short r ≡ long a % 2 ^ 96 ⌝ }
+    requires { ⌜ long a < 2 ^ 96 ⌝ }
+    ensures { λ r. ⌜ short r ≡ long a ⌝ }
 {
     Short {
-        high: (a.high % 4294967296) as u32,
+        high: a.high as u32,
         middle: (a.low / 4294967296) as u32,
         low: (a.low % 4294967296) as u32,
     }
 }
 
-// a · f + b; what passes 96 bits is dropped.
+// a · f + b, where it needs no more than three digits.
 pub fn short_times_plus(a: Short, f: u32, b: Short) -> Short
-    ensures { λ r. ⌜ short r ≡ (short a * f + short b) % 2 ^ 96 ⌝ }
+    requires { ⌜ short a * f + short b < 2 ^ 96 ⌝ }
+    ensures { λ r. ⌜ short r ≡ short a * f + short b ⌝ }
 {
     narrow(times_plus(a, f, b))
 }

@@ -4,35 +4,31 @@ use crate::digits::Short;
 use crate::digits::half;
 use crate::digits::times_plus;
 ghost use mathlib.Core.Path.{_≡_};
-ghost use Prim.Native.Nat.{_+_, _*_, _/_, _^_, _<_, _≤_, min};
+ghost use Prim.Native.Nat.{_+_, _*_, _/_, _^_, _<_, _≤_};
 ghost use lib.Dec.{leb, eqb};
 ghost use Rattle.mixing.specs.Nearest.{nearest as nearestOf};
 ghost use Rattle.exact.specs.Value.{short, long};
+ghost use Rattle.exact.specs.Fits.{Fits};
 
-// n · f / d, nearest, halves up: 0 where d is 0, and 2^32 for all that is no less.
-pub fn nearest(n: Short, f: u32, d: Short) -> u64
-    ensures { λ r. ⌜ r ≡ min (nearestOf (short n * f) (short d)) (2 ^ 32) ⌝ }
+// f · n / d, nearest, halves up.
+pub fn nearest(f: u32, n: Short, d: Short) -> u32
+    requires { ⌜ Fits (f * short n) (short d) ⌝ }
+    ensures { λ r. ⌜ r ≡ nearestOf (f * short n) (short d) ⌝ }
 {
     quotient(times_plus(n, f, half(d)), d)
 }
 
-// n / d, rounded down: 0 where d is 0, and 2^32 for all that is no less. Each turn takes away as much as the leading digits
-// show to be there; two turns are the rule.
-fn quotient(n: Long, d: Short) -> u64
-    ensures { λ r. ⌜ r ≡ min (long n / short d) (2 ^ 32) ⌝ }
+// n / d, rounded down. Each turn takes away as much as the leading digits show to be there; two turns are the rule.
+fn quotient(n: Long, d: Short) -> u32
+    requires { ⌜ long n < short d * 2 ^ 32 ⌝ }
+    ensures { λ r. ⌜ r ≡ long n / short d ⌝ }
 {
     let divisor = whole(d);
-    if at_most(divisor, Long { high: 0, low: 0 }) {
-        return 0;
-    }
-    if at_most(shifted(d), n) {
-        return 4294967296;
-    }
-    let mut q: u64 = 0;
+    let mut q: u32 = 0;
     let mut rest = n;
     while at_most(divisor, rest) {
         let part = estimate(rest, d);
-        q += part as u64;
+        q += part;
         rest = minus(
             rest,
             times_plus(
@@ -63,14 +59,11 @@ pub fn is_zero(d: Short) -> bool
 
 // A part of the quotient, at least 1.
 fn estimate(n: Long, d: Short) -> u32
-    requires { ⌜ (0 < short d) × (short d ≤ long n) ⌝ }
+    requires { ⌜ (short d ≤ long n) × (long n < short d * 2 ^ 32) ⌝ }
     ensures { λ r. ⌜ (0 < r) × (r * short d ≤ long n) ⌝ }
 {
     let q = leading(n, d);
-    if q == 0 {
-        return 1;
-    }
-    if q < 4294967296 { q as u32 } else { 4294967295 }
+    if q == 0 { 1 } else { q as u32 }
 }
 
 // The quotient of the leading digits, never too large.
@@ -106,16 +99,6 @@ fn whole(d: Short) -> Long
     Long {
         high: d.high as u64,
         low: pair(d.middle, d.low),
-    }
-}
-
-// d · 2^32.
-fn shifted(d: Short) -> Long
-    ensures { λ r. ⌜ long r ≡ short d * 2 ^ 32 ⌝ }
-{
-    Long {
-        high: pair(d.high, d.middle),
-        low: (d.low as u64) * 4294967296,
     }
 }
 

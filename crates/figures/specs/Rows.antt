@@ -30,6 +30,10 @@ at460 v = lone 401 80 v
 abbrev at485 : ℕ → List ℕ
 at485 v = lone 401 105 v
 
+-- from 360 to 830 nm at step 1, all at the limit
+abbrev fullLight : List ℕ
+fullLight = replicate 471 1000000
+
 unfoldable pub rows : List Row
 rows =
     -- P1: all zero
@@ -85,7 +89,17 @@ rows =
     -- our own: lit at 355 nm alone, at step 10, which pulls on the line that crosses 360
     ∷ gives (xyz 2 355 10 (lone 44 0 1000000)) (157 ∷ 5 ∷ 733 ∷ [])
     ∷ gives (xyz 10 355 10 (lone 44 0 1000000)) (0 ∷ 0 ∷ 1 ∷ [])
+    -- our own: 1,000,000 at each of 360 to 830, the most that any light can have
+    ∷ gives (photopic 360 1 fullLight) (72983274 ∷ [])
+    ∷ gives (scotopic 360 1 fullLight) (165021238 ∷ [])
+    ∷ gives (photopic10 360 1 fullLight) (79796724 ∷ [])
+    ∷ gives (mesopic 0 360 1 fullLight) (164924650 ∷ [])
+    ∷ gives (mesopic 500 360 1 fullLight) (99345923 ∷ [])
+    ∷ gives (mesopic 1000 360 1 fullLight) (72983274 ∷ [])
+    ∷ gives (xyz 2 360 1 fullLight) (72989116 ∷ 72983274 ∷ 73007408 ∷ [])
+    ∷ gives (xyz 10 360 1 fullLight) (79787587 ∷ 79796724 ∷ 79805003 ∷ [])
     -- our own: a full white panel for observer 10, and a panel's refusals
+    ∷ gives (panelXyz 10 1 360 1 (replicate 471 10000)) (111144 ∷ 100000 ∷ 35200 ∷ [])
     ∷ gives (panelXyz 10 2 360 1 (replicate 471 10000)) (94811 ∷ 100000 ∷ 107305 ∷ [])
     ∷ gives (panelXy 2 2 360 1 (replicate 471 10000)) (31273 ∷ 32902 ∷ [])
     ∷ refuses (panelXyz 3 3 360 1 (replicate 471 10000)) 6 0

@@ -42,6 +42,3 @@ PADDING = 13
 
 abbrev pub ROOM : ℕ
 ROOM = 14
-
-abbrev pub OVERRANGE : ℕ
-OVERRANGE = 15

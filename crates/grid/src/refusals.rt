@@ -1,4 +1,4 @@
-// The numbers of refusals, by the rules' names.
+// The numbers of refusals, by the rules' names. 15 is not used: no reading can pass 32 bits.
 
 pub const STEP: u32 = 1;
 
@@ -27,5 +27,3 @@ pub const LENGTH: u32 = 12;
 pub const PADDING: u32 = 13;
 
 pub const ROOM: u32 = 14;
-
-pub const OVERRANGE: u32 = 15;

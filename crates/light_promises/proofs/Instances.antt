@@ -1,13 +1,12 @@
 -- The promises of mixing and of order at each reading: instances of the laws, by the linearity of W.
 use mathlib.Core.Path.{_≡_, refl, sym}
-use mathlib.Core.Bool.{true, not-eq-not}
-use mathlib.Core.List.{List}
+use mathlib.Core.Bool.{true}
+use mathlib.Core.List.{List, [], _∷_}
 use Prim.Native.Nat.{ℕ, _+_, _*_, _-_, _^_, _≤_, _<_}
-use native.Mathlib.Nat.{mul-pos, add-comm}
+use native.Mathlib.Nat.{add-comm}
 use native.Mathlib.Omega.{arith}
-use borrow.Author.Tests.{leb-true}
+use borrow.Author.Tests.{le-leb}
 use lib.ListN.{length, getD}
-use lib.Dec.{leb}
 use Rattle.grid.specs.declared.Check.the-variants.{Fine}
 use Rattle.grid.specs.Check.{isObserver, lightCheck}
 use Rattle.grid.specs.Refusals.{SAMPLE}
@@ -21,8 +20,9 @@ use Rattle.spectrum.proofs.Measured.{W-linear}
 use Rattle.grid.proofs.Light.{grid-fine, on-grid}
 use Rattle.answers.specs.Said.{saidReading, saidXyz, saidXy}
 use Rattle.curves.specs.Observer.{ofObserver, curvesOf}
-use Rattle.answers.proofs.Mixed.{reading-unit, reading-order, xyz-unit, xyz-order, xy-between, xy-one-dark}
+use Rattle.answers.proofs.Mixed.{AllLinear, unit, order, xy-between, xy-one-dark}
 use Rattle.readings.specs.Readings.{weighed, illuminanceOf, mesopicOf, mesopicSum, mesopicDivisor, xyzOf, xyOf}
+use Rattle.readings.proofs.Small.{mesopic-fits}
 use Rattle.light_promises.specs.Lights.{Mixable, OneUnit, InOrder, BothLit, OneDark}
 
 pub mixture-accepted : (a s : ℕ) (xs ys : List ℕ) → Mixable a s xs ys → lightCheck a s (mix xs ys) ≡ Fine
@@ -51,20 +51,19 @@ module _ (c : Curve) (efficacy : ℕ) where
 
   pub illuminance-unit : OneUnit (λ a s xs. saidReading (illuminanceOf c efficacy a s xs))
   unfolding illuminanceOf
-  illuminance-unit a s xs ys m e f g i =
-      let mixed = mixture-accepted a s xs ys m in
-      rw (m .first, m .second, mixed)
-      (reading-unit (length xs) (s * 10 ^ 16) (scale-pos a s xs (m .first)) xs ys refl (sym (m .one-grid)) (λ zs. efficacy * weighed c a s zs)
-      (efficacy-linear (length xs) a s) (rw (m .first) at e) (rw (m .second) at f) (rw mixed at g) i)
+  illuminance-unit a s xs ys m =
+      rw (m .first, m .second, mixture-accepted a s xs ys m)
+      (unit (length xs) (s * 10 ^ 16) (scale-pos a s xs (m .first)) xs ys refl (sym (m .one-grid)) ((λ zs. efficacy * weighed c a s zs) ∷ [])
+      (efficacy-linear (length xs) a s, tt))
 
   pub illuminance-order : InOrder (λ a s xs. saidReading (illuminanceOf c efficacy a s xs))
   unfolding illuminanceOf
-  illuminance-order a s xs ys p q l b e f i =
+  illuminance-order a s xs ys p q l b =
       rw (p, q)
-      (reading-order (length xs) (s * 10 ^ 16) (scale-pos a s xs p) xs ys refl (sym l) (λ zs. efficacy * weighed c a s zs)
-      (efficacy-linear (length xs) a s) b (rw p at e) (rw q at f) i)
+      (order (length xs) (s * 10 ^ 16) (scale-pos a s xs p) xs ys refl (sym l) ((λ zs. efficacy * weighed c a s zs) ∷ [])
+      (efficacy-linear (length xs) a s, tt) b)
 
-module _ (k : ℕ) where
+module _ (k : ℕ) (few : k ≤ 1000) where
   mesopic-linear : (n a s : ℕ) → Linear n (λ xs. mesopicSum k a s xs)
   mesopic-linear n a s =
       linear-times n 683000 (λ xs. k * weighed YBar a s xs + (1000 - k) * weighed VPrime a s xs)
@@ -72,72 +71,53 @@ module _ (k : ℕ) where
       (linear-times n k (λ xs. weighed YBar a s xs) (curve-linear n YBar a s))
       (linear-times n (1000 - k) (λ xs. weighed VPrime a s xs) (curve-linear n VPrime a s)))
 
-  divisor-pos : (a s : ℕ) (xs : List ℕ) → lightCheck a s xs ≡ Fine → leb k 1000 ≡ true → 0 < mesopicDivisor k s
-  divisor-pos a s xs fine e =
-      let few : k ≤ 1000 = leb-true k 1000 e in
-      let bracket : 0 < 1000 * k + 402 * (1000 - k) = omega arith in
-      mul-pos (scale-pos a s xs fine) bracket
-
-  -- a mesopic reading that is given has its setting in range
-  setting : (a s : ℕ) (xs : List ℕ) → saidReading (mesopicOf k a s xs) .number ≡ 0 → leb k 1000 ≡ true
-  unfolding mesopicOf
-  setting a s xs e = not-eq-not {a = leb k 1000} {b = true} .0 (λ p. let h = rw p at e in omega arith)
-
   pub mesopic-unit : OneUnit (λ a s xs. saidReading (mesopicOf k a s xs))
   unfolding mesopicOf
-  mesopic-unit a s xs ys m e f g i =
-      let mixed = mixture-accepted a s xs ys m in
-      let t = setting a s xs e in
-      rw (t, m .first, m .second, mixed)
-      (reading-unit (length xs) (mesopicDivisor k s) (divisor-pos a s xs (m .first) t) xs ys refl (sym (m .one-grid))
-      (λ zs. mesopicSum k a s zs) (mesopic-linear (length xs) a s) (rw (t, m .first) at e) (rw (t, m .second) at f) (rw (t, mixed) at g) i)
+  mesopic-unit a s xs ys m =
+      rw (le-leb k 1000 few, m .first, m .second, mixture-accepted a s xs ys m)
+      (unit (length xs) (mesopicDivisor k s) (mesopic-fits a s xs (m .first) k few .divisor) xs ys refl (sym (m .one-grid))
+      ((λ zs. mesopicSum k a s zs) ∷ []) (mesopic-linear (length xs) a s, tt))
 
   pub mesopic-order : InOrder (λ a s xs. saidReading (mesopicOf k a s xs))
   unfolding mesopicOf
-  mesopic-order a s xs ys p q l b e f i =
-      let t = setting a s xs e in
-      rw (t, p, q)
-      (reading-order (length xs) (mesopicDivisor k s) (divisor-pos a s xs p t) xs ys refl (sym l) (λ zs. mesopicSum k a s zs)
-      (mesopic-linear (length xs) a s) b (rw (t, p) at e) (rw (t, q) at f) i)
+  mesopic-order a s xs ys p q l b =
+      rw (le-leb k 1000 few, p, q)
+      (order (length xs) (mesopicDivisor k s) (mesopic-fits a s xs p k few .divisor) xs ys refl (sym l) ((λ zs. mesopicSum k a s zs) ∷ [])
+      (mesopic-linear (length xs) a s, tt) b)
 
-module _ (o : ℕ) where
-  -- colours that are given have an observer
-  xyz-observer : (a s : ℕ) (xs : List ℕ) → saidXyz (xyzOf o a s xs) .number ≡ 0 → isObserver o ≡ true
-  unfolding xyzOf
-  xyz-observer a s xs e = not-eq-not {a = isObserver o} {b = true} .0 (λ p. let h = rw p at e in omega arith)
+module _ (o : ℕ) (t : isObserver o ≡ true) where
+  abbrev efficacy : ℕ
+  efficacy = ofObserver o 683 684
 
-  -- and so have coordinates that are given, or dark
-  xy-observer : (a s : ℕ) (xs : List ℕ) (n : ℕ) → saidXy (xyOf o a s xs) .number ≡ n → (6 ≡ n → ⊥) → isObserver o ≡ true
-  unfolding xyOf
-  xy-observer a s xs n e other = not-eq-not {a = isObserver o} {b = true} .0 (λ p. other (rw p at e))
+  abbrev colours : ℕ → ℕ → List (List ℕ → ℕ)
+  colours a s =
+      (λ zs. efficacy * weighed (curvesOf o .x) a s zs)
+      ∷ (λ zs. efficacy * weighed (curvesOf o .y) a s zs)
+      ∷ (λ zs. efficacy * weighed (curvesOf o .z) a s zs)
+      ∷ []
+
+  colours-linear : (n a s : ℕ) → AllLinear n (colours a s)
+  colours-linear n a s = (
+    efficacy-linear (curvesOf o .x) efficacy n a s,
+    (efficacy-linear (curvesOf o .y) efficacy n a s, (efficacy-linear (curvesOf o .z) efficacy n a s, tt)),
+  )
 
   pub xyz-mixed : OneUnit (λ a s xs. saidXyz (xyzOf o a s xs))
   unfolding xyzOf
-  xyz-mixed a s xs ys m e f g i =
-      let mixed = mixture-accepted a s xs ys m in
-      let t = xyz-observer a s xs e in
-      let n = length xs in
-      let k : ℕ = ofObserver o 683 684 in
-      rw (t, m .first, m .second, mixed)
-      (xyz-unit n (s * 10 ^ 16) (scale-pos a s xs (m .first)) xs ys refl (sym (m .one-grid)) _ _ _ (efficacy-linear (curvesOf o .x) k n a s)
-      (efficacy-linear (curvesOf o .y) k n a s) (efficacy-linear (curvesOf o .z) k n a s)
-      (rw (t, m .first) at e) (rw (t, m .second) at f) (rw (t, mixed) at g) i)
+  xyz-mixed a s xs ys m =
+      rw (t, m .first, m .second, mixture-accepted a s xs ys m)
+      (unit (length xs) (s * 10 ^ 16) (scale-pos a s xs (m .first)) xs ys refl (sym (m .one-grid)) (colours a s) (colours-linear (length xs) a s))
 
   pub xyz-ordered : InOrder (λ a s xs. saidXyz (xyzOf o a s xs))
   unfolding xyzOf
-  xyz-ordered a s xs ys p q l b e f i =
-      let t = xyz-observer a s xs e in
-      let n = length xs in
-      let k : ℕ = ofObserver o 683 684 in
+  xyz-ordered a s xs ys p q l b =
       rw (t, p, q)
-      (xyz-order n (s * 10 ^ 16) (scale-pos a s xs p) xs ys refl (sym l) _ _ _ (efficacy-linear (curvesOf o .x) k n a s)
-      (efficacy-linear (curvesOf o .y) k n a s) (efficacy-linear (curvesOf o .z) k n a s) b (rw (t, p) at e) (rw (t, q) at f) i)
+      (order (length xs) (s * 10 ^ 16) (scale-pos a s xs p) xs ys refl (sym l) (colours a s) (colours-linear (length xs) a s) b)
 
   pub between : BothLit (λ a s xs. saidXy (xyOf o a s xs))
   unfolding xyOf
   between a s xs ys m e f =
       let n = length xs in
-      let t = xy-observer a s xs 0 e (λ h. omega arith) in
       rw (t, m .first, m .second, mixture-accepted a s xs ys m)
       (xy-between n _ _ _ (curve-linear n (curvesOf o .x) a s) (curve-linear n (curvesOf o .y) a s) (curve-linear n (curvesOf o .z) a s)
       xs ys refl (sym (m .one-grid)) (rw (t, m .first) at e) (rw (t, m .second) at f))
@@ -146,7 +126,6 @@ module _ (o : ℕ) where
   unfolding xyOf
   one-dark a s xs ys m e f =
       let n = length xs in
-      let t = xy-observer a s xs 9 e (λ h. omega arith) in
       rw (t, m .second, mixture-accepted a s xs ys m, mixture-accepted a s ys xs (swapped a s xs ys m))
       (xy-one-dark n _ _ _ (curve-linear n (curvesOf o .x) a s) (curve-linear n (curvesOf o .y) a s) (curve-linear n (curvesOf o .z) a s)
       xs ys refl (sym (m .one-grid)) (rw (t, m .first) at e))

@@ -1,5 +1,6 @@
--- Laws of mixed, ordered and dark lights, and of panels.
+-- Laws of mixed, ordered and dark lights, of the range, and of panels.
 pub mod Instances
 pub mod Unlit
-pub mod Given
 pub mod Full
+pub mod Range
+pub mod White

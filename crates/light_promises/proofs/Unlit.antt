@@ -22,7 +22,7 @@ use Rattle.answers.specs.declared.Reading.{Reading}
 use Rattle.answers.specs.declared.XyzAnswer.{XyzAnswer}
 use Rattle.answers.specs.declared.XyAnswer.{XyAnswer}
 use Rattle.answers.specs.declared.ChartAnswer.{ChartAnswer}
-use Rattle.answers.specs.Worked.{readingFrom, xyzFrom, xyFrom, onChart}
+use Rattle.answers.specs.Worked.{xyFrom, onChart}
 use Rattle.curves.specs.Observer.{ofObserver, curvesOf}
 use Rattle.readings.specs.declared.figures.FiguresAnswer.{FiguresAnswer}
 use Rattle.readings.specs.Readings.{weighed, illuminanceOf, mesopicOf, xyzOf, xyOf, chartOf, figuresOf}
@@ -55,11 +55,11 @@ module _ (a s : ℕ) (xs : List ℕ) (fine : lightCheck a s xs ≡ Fine) where
   no-sum c unlit = total-none 471 (λ k. weightOf c k * T a s xs (360 + k)) unlit
 
   pub no-illuminance : (c : Curve) (efficacy : ℕ) → Unlit c a s xs → illuminanceOf c efficacy a s xs ≡ Reading.Value 0
-  unfolding illuminanceOf readingFrom
+  unfolding illuminanceOf
   no-illuminance c efficacy unlit = rw (fine, no-sum c unlit, mul-zero efficacy, nearest-none)
 
   pub no-mesopic : (k : ℕ) → k ≤ 1000 → Unlit YBar a s xs → Unlit VPrime a s xs → mesopicOf k a s xs ≡ Reading.Value 0
-  unfolding mesopicOf readingFrom
+  unfolding mesopicOf
   no-mesopic k h day night =
       rw (le-leb k 1000 h, fine, no-sum YBar day, no-sum VPrime night, mul-zero k, mul-zero (1000 - k), nearest-none)
 
@@ -68,7 +68,7 @@ module _ (a s : ℕ) (xs : List ℕ) (fine : lightCheck a s xs ≡ Fine) where
     no-sums = (no-sum (curvesOf o .x) (unlit .0), no-sum (curvesOf o .y) (unlit .1), no-sum (curvesOf o .z) (unlit .2))
 
     pub no-xyz : xyzOf o a s xs ≡ XyzAnswer.Value (record { x = 0; y = 0; z = 0 })
-    unfolding xyzOf xyzFrom
+    unfolding xyzOf
     no-xyz = rw (e, fine, no-sums .0, no-sums .1, no-sums .2, mul-zero (ofObserver o 683 684), nearest-none)
 
     pub no-xy : xyOf o a s xs ≡ XyAnswer.Refused (refusal DARK 0)
@@ -85,5 +85,5 @@ module _ (a s : ℕ) (xs : List ℕ) (fine : lightCheck a s xs ≡ Fine) where
       figuresOf a s xs
       ≡ FiguresAnswer.Value
       (record { photopic = 0; scotopic = 0; xyz = record { x = 0; y = 0; z = 0 }; xy = XyAnswer.Refused (refusal DARK 0) })
-  no-figures unlit night =
-      rw (no-illuminance YBar 683 (unlit .1), no-illuminance VPrime 1700 night, no-xyz 2 refl unlit, no-xy 2 refl unlit)
+  unfolding figuresOf xyFrom
+  no-figures unlit night = let none = no-sums 2 refl unlit in rw (fine, none .0, none .1, none .2, no-sum VPrime night, nearest-none)

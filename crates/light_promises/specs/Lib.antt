@@ -1,3 +1,4 @@
 -- What is promised of lights and of panels.
 pub mod Lights
+pub mod Range
 pub mod Panels

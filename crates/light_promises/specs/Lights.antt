@@ -30,30 +30,33 @@ pub record Mixable (a s : ℕ) (xs ys : List ℕ) : Type 0 where
   pub one-grid : length xs ≡ length ys
   pub within : Within 1000000 (mix xs ys)
 
--- where all three answers are values, each value of the mixture differs from the sum of the two by at most one unit
+-- each value of the mixture differs from the sum of the two by at most one unit
 abbrev pub OneUnit : Answer → Type 0
 OneUnit answer =
-    (a s : ℕ) (xs ys : List ℕ) → Mixable a s xs ys → answer a s xs .number ≡ 0 → answer a s ys .number ≡ 0 →
-    answer a s (mix xs ys) .number ≡ 0 → (i : ℕ) →
+    (a s : ℕ) (xs ys : List ℕ) → Mixable a s xs ys → (i : ℕ) →
     Differ 1 (value (answer a s (mix xs ys)) i) (value (answer a s xs) i + value (answer a s ys) i)
 
 -- where no sample of one is above the other's at its place, no value is
 abbrev pub InOrder : Answer → Type 0
 InOrder answer =
     (a s : ℕ) (xs ys : List ℕ) → lightCheck a s xs ≡ Fine → lightCheck a s ys ≡ Fine → length xs ≡ length ys → Below xs ys →
-    answer a s xs .number ≡ 0 → answer a s ys .number ≡ 0 → (i : ℕ) → value (answer a s xs) i ≤ value (answer a s ys) i
+    (i : ℕ) → value (answer a s xs) i ≤ value (answer a s ys) i
+
+-- refused as dark
+abbrev pub IsDark : Said → Type 0
+IsDark said = said .number ≡ DARK
 
 -- where neither is dark, neither is the mixture, and each of its coordinates lies between the two
 abbrev pub BothLit : Answer → Type 0
 BothLit answer =
-    (a s : ℕ) (xs ys : List ℕ) → Mixable a s xs ys → answer a s xs .number ≡ 0 → answer a s ys .number ≡ 0 →
+    (a s : ℕ) (xs ys : List ℕ) → Mixable a s xs ys → (IsDark (answer a s xs) → ⊥) → (IsDark (answer a s ys) → ⊥) →
     (answer a s (mix xs ys) .number ≡ 0)
     × ((i : ℕ) → Between (value (answer a s xs) i) (value (answer a s ys) i) (value (answer a s (mix xs ys)) i))
 
 -- where exactly one is dark, the mixture has the other's
 abbrev pub OneDark : Answer → Type 0
 OneDark answer =
-    (a s : ℕ) (xs ys : List ℕ) → Mixable a s xs ys → answer a s xs .number ≡ DARK → answer a s ys .number ≡ 0 →
+    (a s : ℕ) (xs ys : List ℕ) → Mixable a s xs ys → IsDark (answer a s xs) → (IsDark (answer a s ys) → ⊥) →
     (answer a s (mix xs ys) ≡ answer a s ys) × (answer a s (mix ys xs) ≡ answer a s ys)
 
 -- mixing behaves, for each illuminance, for X, Y, Z and for x, y
@@ -62,18 +65,18 @@ pub record Mixing : Type 0 where
   pub photopic : OneUnit (λ a s xs. saidReading (photopicOf a s xs))
   pub scotopic : OneUnit (λ a s xs. saidReading (scotopicOf a s xs))
   pub photopic-10 : OneUnit (λ a s xs. saidReading (photopic10Of a s xs))
-  pub mesopic : (k : ℕ) → OneUnit (λ a s xs. saidReading (mesopicOf k a s xs))
-  pub xyz : (o : ℕ) → OneUnit (λ a s xs. saidXyz (xyzOf o a s xs))
-  pub between : (o : ℕ) → BothLit (λ a s xs. saidXy (xyOf o a s xs))
-  pub one-dark : (o : ℕ) → OneDark (λ a s xs. saidXy (xyOf o a s xs))
+  pub mesopic : (k : ℕ) → k ≤ 1000 → OneUnit (λ a s xs. saidReading (mesopicOf k a s xs))
+  pub xyz : (o : ℕ) → isObserver o ≡ true → OneUnit (λ a s xs. saidXyz (xyzOf o a s xs))
+  pub between : (o : ℕ) → isObserver o ≡ true → BothLit (λ a s xs. saidXy (xyOf o a s xs))
+  pub one-dark : (o : ℕ) → isObserver o ≡ true → OneDark (λ a s xs. saidXy (xyOf o a s xs))
 
 -- the order of the samples is kept by each illuminance and by X, Y, Z
 pub record Order : Type 0 where
   pub photopic : InOrder (λ a s xs. saidReading (photopicOf a s xs))
   pub scotopic : InOrder (λ a s xs. saidReading (scotopicOf a s xs))
   pub photopic-10 : InOrder (λ a s xs. saidReading (photopic10Of a s xs))
-  pub mesopic : (k : ℕ) → InOrder (λ a s xs. saidReading (mesopicOf k a s xs))
-  pub xyz : (o : ℕ) → InOrder (λ a s xs. saidXyz (xyzOf o a s xs))
+  pub mesopic : (k : ℕ) → k ≤ 1000 → InOrder (λ a s xs. saidReading (mesopicOf k a s xs))
+  pub xyz : (o : ℕ) → isObserver o ≡ true → InOrder (λ a s xs. saidXyz (xyzOf o a s xs))
 
 -- no light where the curve has any weight
 abbrev pub Unlit : Curve → ℕ → ℕ → List ℕ → Type 0

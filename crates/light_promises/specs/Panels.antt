@@ -1,15 +1,19 @@
--- What is promised of panels: X, Y, Z are given, a full white panel's Y is exactly 100000, and the order of reflectances is kept.
+-- What is promised of panels: X, Y, Z are given, none is above a full white panel's, whose Y is exactly 100000, and the order of
+-- reflectances is kept.
 use mathlib.Core.Path.{_≡_}
-use mathlib.Core.Bool.{true}
-use mathlib.Core.List.{List}
-use Prim.Native.Nat.{ℕ, _+_, _/_, _≤_}
-use lib.ListN.{length, replicate}
+use mathlib.Core.Bool.{true, cond}
+use mathlib.Core.List.{List, [], _∷_}
+use Prim.Native.Nat.{ℕ, _≤_}
+use lib.ListN.{length, getD}
+use lib.Dec.{eqb}
 use Rattle.grid.specs.declared.Check.the-variants.{Fine}
 use Rattle.grid.specs.Check.{isObserver, isStep}
 use Rattle.mixing.specs.Mixture.{Below}
-use Rattle.grid.specs.Said.{Said, value}
+use Rattle.grid.specs.Said.{Said, value, given}
 use Rattle.answers.specs.Said.{saidXyz}
+use Rattle.curves.specs.Observer.{ofObserver}
 use Rattle.panel.specs.Panel.{isIlluminant, panelCheck, panelXyzOf}
+use Rattle.light_promises.specs.Range.{full}
 
 -- X, Y, Z as the rules' number and values
 abbrev pub saidPanelXyz : ℕ → ℕ → ℕ → ℕ → List ℕ → Said
@@ -17,15 +21,24 @@ saidPanelXyz o i a s rs = saidXyz (panelXyzOf o i a s rs)
 
 -- a full white panel: 360 to 830, every reflectance 10,000
 abbrev pub fullWhite : ℕ → List ℕ
-fullWhite s = replicate (470 / s + 1) 10000
+fullWhite s = full 10000 s
+
+-- its X, Y, Z, for observer 2 and then for observer 10, under D65 and then under A
+abbrev pub whiteXyz : ℕ → ℕ → List ℕ
+whiteXyz o i =
+    ofObserver o (cond (eqb i 2) (95047 ∷ 100000 ∷ 108883 ∷ []) (109850 ∷ 100000 ∷ 35585 ∷ []))
+    (cond (eqb i 2) (94811 ∷ 100000 ∷ 107305 ∷ []) (111144 ∷ 100000 ∷ 35200 ∷ []))
 
 pub record Panels : Type 0 where
-  -- the X, Y, Z of a panel that is accepted are given
-  pub given : (o i a s : ℕ) (rs : List ℕ) → panelCheck o i a s rs ≡ Fine → saidPanelXyz o i a s rs .number ≡ 0
-  -- a full white panel is accepted, and has Y exactly 100000, under both illuminants for every observer and step
+  -- the X, Y, Z of a panel that is accepted are given, and none is above that of the full white one
+  pub is-given : (o i a s : ℕ) (rs : List ℕ) → panelCheck o i a s rs ≡ Fine → saidPanelXyz o i a s rs .number ≡ 0
+  pub at-most :
+      (o i a s : ℕ) (rs : List ℕ) → panelCheck o i a s rs ≡ Fine → (k : ℕ) →
+      value (saidPanelXyz o i a s rs) k ≤ getD (whiteXyz o i) k 0
+  -- which is accepted, and has Y exactly 100000, under both illuminants for every observer and step
   pub white :
       (o i s : ℕ) → isObserver o ≡ true → isIlluminant i ≡ true → isStep s ≡ true →
-      (saidPanelXyz o i 360 s (fullWhite s) .number ≡ 0) × (value (saidPanelXyz o i 360 s (fullWhite s)) 1 ≡ 100000)
+      saidPanelXyz o i 360 s (fullWhite s) ≡ given (whiteXyz o i) []
   -- reflectances place by place no higher give X, Y, Z no higher
   pub order :
       (o i a s : ℕ) (rs qs : List ℕ) → panelCheck o i a s rs ≡ Fine → panelCheck o i a s qs ≡ Fine → length rs ≡ length qs →

@@ -1,5 +1,11 @@
-// What is promised of a light's readings: how mixed light behaves, the order of light, darkness, and the mesopic reading by day.
+// What is promised of a light's readings: their range, how mixed light behaves, the order of light, darkness, and the mesopic
+// reading by day.
+ghost use Rattle.light_promises.specs.Range.{Range};
 ghost use Rattle.light_promises.specs.Lights.{Mixing, Order, Darkness, AtThousand};
+
+pub fn promise_range()
+    ensures { λ _. ⌜ Range ⌝ }
+{}
 
 pub fn promise_mixing()
     ensures { λ _. ⌜ Mixing ⌝ }

@@ -2,7 +2,7 @@
 use mathlib.Core.Path.{_≡_, _∙_, sym, ap}
 use mathlib.Core.Logic.{_↔_}
 use Prim.Native.Nat.{ℕ, zero, suc, _+_, _*_, _/_, _≤_, _<_, zero-le}
-use native.Mathlib.Nat.{le-refl, le-div-iff-mul-le, div-lt-iff-lt-mul, div-div-eq-div-mul, div-eq-of-eq-mul-left, mul-add-div, div-zero}
+use native.Mathlib.Nat.{le-refl, le-div-iff-mul-le, div-lt-iff-lt-mul, div-div-eq-div-mul, div-eq-of-eq-mul-left, mul-add-div, mul-div-mul-left, div-zero}
 use native.Mathlib.Omega.{arith}
 use Rattle.mixing.specs.Nearest.{nearest}
 
@@ -44,13 +44,26 @@ nearest-bound c n (suc d) h =
     let less : nearest n (suc d) < c + 1 = nearest-lt n (suc d) pos (c + 1) .1 (omega arith) in
     omega arith
 
+-- more over the same is no less
+nearest-mono : (n m d : ℕ) → n ≤ m → nearest n d ≤ nearest m d
+nearest-mono n m zero h = rw (nearest-zero n, nearest-zero m) zero-le
+nearest-mono n m (suc d) h =
+    let pos : 0 < suc d = omega arith in
+    let low = le-nearest n (suc d) pos (nearest n (suc d)) .0 (le-refl (nearest n (suc d))) in
+    le-nearest m (suc d) pos (nearest n (suc d)) .1 (omega arith)
+
+-- a factor of both cancels
+pub nearest-cancel : (s m d : ℕ) → 0 < s → nearest (s * m) (s * d) ≡ nearest m d
+unfolding nearest
+nearest-cancel s m d pos =
+    let up : 2 * (s * m) + s * d ≡ s * (2 * m + d) = omega arith in
+    let down : 2 * (s * d) ≡ s * (2 * d) = omega arith in
+    rw (up, down) (mul-div-mul-left (2 * m + d) (2 * d) pos)
+
+-- at most s times m, over s times d, is at most m over d
+pub nearest-scaled : (s n m d : ℕ) → 0 < s → n ≤ s * m → nearest n (s * d) ≤ nearest m d
+nearest-scaled s n m d pos h = rw (sym (nearest-cancel s m d pos)) (nearest-mono n (s * m) (s * d) h)
+
 -- nothing over anything is nothing
 pub nearest-none : (d : ℕ) → nearest 0 d ≡ 0
 nearest-none d = let h = nearest-bound 0 0 d zero-le in omega arith
-
--- a whole number of divisors, over one, is that number
-pub nearest-times : (c d : ℕ) → 0 < d → nearest (c * d) d ≡ c
-nearest-times c d pos =
-    let high = nearest-bound c (c * d) d (le-refl (c * d)) in
-    let low = le-nearest (c * d) d pos c .1 (omega arith) in
-    omega arith

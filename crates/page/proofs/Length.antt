@@ -56,9 +56,9 @@ unfolding figureLines
 figures-length f h =
     let day = number-length (ascii "photopic ") (f .photopic) (h .photopic) in
     let night = number-length (ascii "scotopic ") (f .scotopic) (h .scotopic) in
-    let x = number-length (ascii "X ") (f .xyz .x) (h .xyz .0) in
-    let y = number-length (ascii "Y ") (f .xyz .y) (h .xyz .1) in
-    let z = number-length (ascii "Z ") (f .xyz .z) (h .xyz .2) in
+    let x = number-length (ascii "X ") (f .xyz .x) (h .x) in
+    let y = number-length (ascii "Y ") (f .xyz .y) (h .y) in
+    let z = number-length (ascii "Z ") (f .xyz .z) (h .z) in
     let colour = colour-length (f .xy) (h .xy) in
     simp length-append (omega arith)
 

@@ -1,5 +1,4 @@
 -- Laws of panels.
-pub mod Computed
 pub mod Accepted
 pub mod Sized
 pub mod Weighed

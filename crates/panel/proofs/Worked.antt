@@ -2,29 +2,26 @@
 use mathlib.Core.Path.{_≡_}
 use mathlib.Core.List.{List}
 use Prim.Native.Nat.{ℕ, _+_, _*_, _^_, _≤_, _<_}
-use native.Mathlib.Nat.{mul-comm}
 use Rattle.grid.specs.declared.Check.the-variants.{Fine}
 use Rattle.exact.specs.Value.{short}
 use Rattle.curves.specs.declared.weigh.Sums.{Sums}
 use Rattle.answers.specs.Worked.{xyzFrom, xyFrom}
 use Rattle.answers.specs.declared.from_sums.SumsAnswer.{SumsAnswer}
-use Rattle.answers.specs.FromSums.{ShortTotal}
+use Rattle.answers.specs.FromSums.{ShortTotal, XyzFit}
 use Rattle.answers.proofs.FromSums.{given-sums}
-use Rattle.panel.specs.Panel.{panelCheck, whiteSum, panelXSum, panelYSum, panelZSum}
+use Rattle.panel.specs.Panel.{panelCheck, whiteSum, panelXyz, panelXy}
 use Rattle.panel.specs.Sums.{PanelSums, PanelSummed}
 use Rattle.panel.proofs.Accepted.{on-grid}
-use Rattle.panel.proofs.Sized.{colour-small}
+use Rattle.panel.proofs.Sized.{colour-small, xyz-fit}
 
 -- what is worked from the sums of an accepted panel
 pub record Worked (o i a s : ℕ) (rs : List ℕ) (sums : Sums) : Type 0 where
   pub fine : panelCheck o i a s rs ≡ Fine
   pub step-small : s ≤ 10
   pub total-small : short (sums .x) + short (sums .y) + short (sums .z) < 2 ^ 96
-  pub xyz :
-      (d : ℕ) → d ≡ s * whiteSum o i →
-      xyzFrom (short (sums .x) * 10) (short (sums .y) * 10) (short (sums .z) * 10) d
-      ≡ xyzFrom (10 * panelXSum o i a s rs) (10 * panelYSum o i a s rs) (10 * panelZSum o i a s rs) (s * whiteSum o i)
-  pub xy : xyFrom (short (sums .x)) (short (sums .y)) (short (sums .z)) ≡ xyFrom (panelXSum o i a s rs) (panelYSum o i a s rs) (panelZSum o i a s rs)
+  pub fits : XyzFit (10 * short (sums .x)) (10 * short (sums .y)) (10 * short (sums .z)) (s * whiteSum o i)
+  pub xyz : xyzFrom (10 * short (sums .x)) (10 * short (sums .y)) (10 * short (sums .z)) (s * whiteSum o i) ≡ panelXyz o i a s rs
+  pub xy : xyFrom (short (sums .x)) (short (sums .y)) (short (sums .z)) ≡ panelXy o i a s rs
 
 module _ (o i a s : ℕ) (rs : List ℕ) (answer : SumsAnswer) (is : PanelSummed o i a s rs answer) where
   pub worked : (sums : Sums) → answer ≡ SumsAnswer.Given sums → Worked o i a s rs sums
@@ -35,16 +32,8 @@ module _ (o i a s : ℕ) (rs : List ℕ) (answer : SumsAnswer) (is : PanelSummed
         fine = given .0;
         step-small = on-grid o i a s rs (given .0) .step-high;
         total-small = rw (are .x, are .y, are .z) (colour-small o i a s rs (given .0));
-        xyz = λ d e.
-            rw (
-              are .x,
-              are .y,
-              are .z,
-              e,
-              mul-comm (panelXSum o i a s rs) 10,
-              mul-comm (panelYSum o i a s rs) 10,
-              mul-comm (panelZSum o i a s rs) 10,
-            );
+        fits = rw (are .x, are .y, are .z) (xyz-fit o i a s rs (given .0));
+        xyz = rw (are .x, are .y, are .z);
         xy = rw (are .x, are .y, are .z);
       }
 

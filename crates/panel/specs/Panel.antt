@@ -12,6 +12,7 @@ use Rattle.tables.specs.declared.Illuminant.{Illuminant}
 use Rattle.tables.specs.declared.Illuminant.the-variants.{A, D65}
 use Rattle.tables.specs.Curves.{litBy}
 use Rattle.spectrum.specs.Line.{W}
+use Rattle.answers.specs.declared.Xyz.{Xyz}
 use Rattle.answers.specs.declared.XyzAnswer.{XyzAnswer}
 use Rattle.answers.specs.declared.XyAnswer.{XyAnswer}
 use Rattle.answers.specs.declared.ChartAnswer.{ChartAnswer}
@@ -50,18 +51,20 @@ unfoldable pub whiteSum : ℕ → ℕ → ℕ
 whiteSum o i = total 471 (litBy (illuminantOf i) (curvesOf o .y))
 
 -- X is the nearest of 10 times the X sum over s times the white sum, in thousandths; Y and Z likewise
+abbrev pub panelXyz : ℕ → ℕ → ℕ → ℕ → List ℕ → Xyz
+panelXyz o i a s rs =
+    xyzFrom (10 * panelXSum o i a s rs) (10 * panelYSum o i a s rs) (10 * panelZSum o i a s rs) (s * whiteSum o i)
+
 unfoldable pub panelXyzOf : ℕ → ℕ → ℕ → ℕ → List ℕ → XyzAnswer
-panelXyzOf o i a s rs =
-    unless (panelCheck o i a s rs) XyzAnswer.Refused
-    (xyzFrom (10 * panelXSum o i a s rs) (10 * panelYSum o i a s rs) (10 * panelZSum o i a s rs) (s * whiteSum o i))
+panelXyzOf o i a s rs = unless (panelCheck o i a s rs) XyzAnswer.Refused (XyzAnswer.Value (panelXyz o i a s rs))
 
 -- x and y come from the three exact sums, each of the first two over the total
+abbrev pub panelXy : ℕ → ℕ → ℕ → ℕ → List ℕ → XyAnswer
+panelXy o i a s rs = xyFrom (panelXSum o i a s rs) (panelYSum o i a s rs) (panelZSum o i a s rs)
+
 unfoldable pub panelXyOf : ℕ → ℕ → ℕ → ℕ → List ℕ → XyAnswer
-panelXyOf o i a s rs =
-    unless (panelCheck o i a s rs) XyAnswer.Refused (xyFrom (panelXSum o i a s rs) (panelYSum o i a s rs) (panelZSum o i a s rs))
+panelXyOf o i a s rs = unless (panelCheck o i a s rs) XyAnswer.Refused (panelXy o i a s rs)
 
 -- dark where x and y would be refused DARK; the other refusals hold as for x and y
 unfoldable pub panelChartOf : ℕ → ℕ → ℕ → ℕ → List ℕ → ChartAnswer
-panelChartOf o i a s rs =
-    unless (panelCheck o i a s rs) ChartAnswer.Refused
-    (ChartAnswer.Given (onChart (xyFrom (panelXSum o i a s rs) (panelYSum o i a s rs) (panelZSum o i a s rs))))
+panelChartOf o i a s rs = unless (panelCheck o i a s rs) ChartAnswer.Refused (ChartAnswer.Given (onChart (panelXy o i a s rs)))

@@ -29,7 +29,9 @@ pub fn panel_xyz(
 {
     let answer = panel_sums(observer, illuminant, start, step, reflectances);
     match answer {
-        SumsAnswer::Given(sums) => xyz_from(sums, 10, divisor(observer, illuminant, step)),
+        SumsAnswer::Given(sums) => {
+            XyzAnswer::Value(xyz_from(10, sums, divisor(observer, illuminant, step)))
+        }
         SumsAnswer::Refused(refusal) => XyzAnswer::Refused(refusal),
     }
 }

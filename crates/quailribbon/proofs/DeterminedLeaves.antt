@@ -38,7 +38,6 @@ use Rattle.curves.proofs.lit.lit_sums.Reads as lit-sums
 use Rattle.spectrum.proofs.line.begin_at_360.Reads as begin-at-360
 use Rattle.spectrum.proofs.line.unmeasured.Reads as unmeasured
 use Rattle.spectrum.proofs.line.lay.Reads as lay
-use Rattle.answers.proofs.work.reading_from.Reads as reading-from
 use Rattle.answers.proofs.work.xyz_from.Reads as xyz-from
 use Rattle.answers.proofs.work.xy_from.Reads as xy-from
 use Rattle.answers.proofs.from_sums.xy_summed.Reads as xy-summed
@@ -189,9 +188,6 @@ left-lay : OneExit (λ e. e .1 .1 .1 .0 .now) lay.Post
 left-lay k a r q e f p s = same p s
 
 -- answers
-
-one-reading-from : OneResult reading-from.Post
-one-reading-from k a r q e f p s = same p s
 
 one-xyz-from : OneResult xyz-from.Post
 one-xyz-from k a r q e f p s = same p s

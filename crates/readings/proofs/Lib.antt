@@ -2,4 +2,3 @@
 pub mod Small
 pub mod LightSums
 pub mod Part
-pub mod Together

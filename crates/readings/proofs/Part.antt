@@ -1,7 +1,7 @@
 -- What is known of an accepted light, and of its part that begins at or just below 360: the part is summed as the light is.
 use mathlib.Core.Path.{_≡_}
 use mathlib.Core.List.{List}
-use Prim.Native.Nat.{ℕ, _+_, _^_, _≤_, _<_}
+use Prim.Native.Nat.{ℕ, _+_, _*_, _^_, _≤_, _<_}
 use native.Mathlib.Omega.{arith}
 use lib.ListN.{length}
 use Rattle.grid.specs.Refusals.{OBSERVER}
@@ -19,11 +19,11 @@ use Rattle.spectrum.specs.Begin.{Begins, Begun}
 use Rattle.spectrum.specs.declared.line.Begin.{Begin}
 use Rattle.spectrum.proofs.Begin.{partFrom, few, begun, W-begun}
 use Rattle.answers.specs.declared.from_sums.SumsAnswer.{SumsAnswer}
-use Rattle.answers.specs.FromSums.{ShortTotal}
+use Rattle.answers.specs.FromSums.{ShortTotal, XyzFit}
 use Rattle.answers.proofs.FromSums.{given-sums}
 use Rattle.readings.specs.Readings.{weighed, colourCheck}
 use Rattle.readings.specs.Sums.{LightSums, LightSummed}
-use Rattle.readings.proofs.Small.{sum-small}
+use Rattle.readings.proofs.Small.{weighed-small, millilux-fits}
 
 -- a light that passed its checks
 pub record AcceptedLight (a s : ℕ) (xs : List ℕ) : Type 0 where
@@ -40,11 +40,20 @@ module _ {a s : ℕ} {xs : List ℕ} (light : AcceptedLight a s xs) where
   -- the sum of its three sums is a number of 96 bits
   pub total-small : {o : ℕ} {sums : Sums} → LightSums o a s xs sums → short (sums .x) + short (sums .y) + short (sums .z) < 2 ^ 96
   total-small {o} is =
-      let small = sum-small a s xs (sought .0) step-small (within a s xs (light .fine)) in
+      let high = step-small in
+      let small = weighed-small a s xs (sought .0) (within a s xs (light .fine)) in
       let x = small (curvesOf o .x) in
       let y = small (curvesOf o .y) in
       let z = small (curvesOf o .z) in
       rw (is .x, is .y, is .z) (omega arith)
+
+  -- and each of the three, times an efficacy, gives millilux of 32 bits
+  pub xyz-fit :
+      {o : ℕ} {sums : Sums} → LightSums o a s xs sums → (f : ℕ) → f ≤ 1700 →
+      XyzFit (f * short (sums .x)) (f * short (sums .y)) (f * short (sums .z)) (s * 10 ^ 16)
+  xyz-fit {o} is f few =
+      let fits = millilux-fits a s xs (light .fine) f few in
+      rw (is .x, is .y, is .z) (record { x-fits = fits (curvesOf o .x); y-fits = fits (curvesOf o .y); z-fits = fits (curvesOf o .z) })
 
 -- and so did one whose observer passed too
 pub light-of : (o a s : ℕ) (xs : List ℕ) → colourCheck o a s xs ≡ Fine → AcceptedLight a s xs

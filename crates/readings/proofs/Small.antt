@@ -1,34 +1,77 @@
--- The sums of an accepted light are small enough for every reading's arithmetic.
-use mathlib.Core.Path.{_≡_, _∙_}
+-- The sums of samples within the limit have a bound, so every reading is a number of 32 bits, and every sum on the way one of 96.
+use mathlib.Core.Path.{_≡_}
+use mathlib.Core.Bool.{Bool, true, false, cond}
 use mathlib.Core.List.{List}
-use Prim.Native.Nat.{ℕ, _+_, _*_, _%_, _^_, _≤_}
-use native.Mathlib.Nat.{mod-eq-of-lt, le-trans, mul-le-mul, mul-le-mul-right}
+use Prim.Native.Nat.{ℕ, _+_, _*_, _-_, _^_, _≤_, _<_}
+use native.Mathlib.Nat.{mul-assoc, mul-pos, mul-le-mul, mul-le-mul-left, mul-le-mul-right}
 use native.Mathlib.Omega.{arith}
-use Rattle.grid.specs.Check.{Within}
+use lib.Dec.{eqb, lit≤}
+use Rattle.grid.specs.declared.Check.the-variants.{Fine}
+use Rattle.grid.specs.Check.{Within, lightCheck}
+use Rattle.grid.proofs.Light.{within, on-grid}
+use Rattle.mixing.proofs.Nearest.{nearest-bound}
+use Rattle.exact.specs.Fits.{Fits}
 use Rattle.tables.specs.declared.Curve.{Curve}
+use Rattle.tables.specs.declared.Curve.the-variants.{YBar, VPrime}
 use Rattle.tables.specs.Curves.{weightOf}
-use Rattle.tables.proofs.Sums.{curve-sum}
+use Rattle.tables.specs.Columns.{tableSum}
+use Rattle.tables.proofs.Columns.{column-total}
+use Rattle.tables.proofs.Sums.{table-sum-small}
+use Rattle.curves.specs.Observer.{ofObserver}
 use Rattle.spectrum.proofs.Light.{W-bound}
-use Rattle.readings.specs.Readings.{weighed}
+use Rattle.readings.specs.Readings.{weighed, mesopicWeighed, mesopicSum, mesopicDivisor}
 
-pub sum-small :
-    (a s : ℕ) (xs : List ℕ) → 1 ≤ s → s ≤ 10 → Within 1000000 xs → (c : Curve) → weighed c a s xs ≤ 20000000000000000000000
-sum-small a s xs low high within c =
-    le-trans (W-bound (weightOf c) a s 1000000 xs low within)
-    (mul-le-mul (mul-le-mul-right 1000000 high) (curve-sum c))
+module _ (a s : ℕ) (xs : List ℕ) (low : 1 ≤ s) (within : Within 1000000 xs) (c : Curve) where
+  -- the sum of a light that is at the limit everywhere is the greatest
+  pub weighed-most : weighed c a s xs ≤ s * (1000000 * tableSum c)
+  weighed-most =
+      rw (mul-assoc s 1000000 (tableSum c)) at (rw (column-total c) at (W-bound (weightOf c) a s 1000000 xs low within))
 
--- the mesopic sum and divisor, as they are worked, pass no 96 bits
-pub mesopic-sum-kept :
-    (v n k j : ℕ) → v ≤ 20000000000000000000000 → n ≤ 20000000000000000000000 → k ≤ 1000 → j ≤ 1000 →
-    (v * k + (n * j + 0) % 2 ^ 96) % 2 ^ 96 ≡ k * v + j * n
-mesopic-sum-kept v n k j hv hn hk hj =
-    let x : v * k ≤ 20000000000000000000000 * 1000 = mul-le-mul hv hk in
-    let y : n * j ≤ 20000000000000000000000 * 1000 = mul-le-mul hn hj in
-    let inner : (n * j + 0) % 2 ^ 96 ≡ n * j + 0 = mod-eq-of-lt (omega arith) in
-    rw inner (mod-eq-of-lt (omega arith) ∙ omega arith)
+  pub weighed-small : weighed c a s xs ≤ s * 2000000000000000000000
+  weighed-small =
+      let most = weighed-most in
+      let few : s * (1000000 * tableSum c) ≤ s * (1000000 * 2000000000000000) = mul-le-mul-left s (mul-le-mul-left 1000000 (table-sum-small c)) in
+      omega arith
 
-pub mesopic-divisor-kept :
-    (d f : ℕ) → d ≤ 100000000000000000 → f ≤ 1000000 → (d * f + 0) % 2 ^ 96 ≡ d * f
-mesopic-divisor-kept d f hd hf =
-    let x : d * f ≤ 100000000000000000 * 1000000 = mul-le-mul hd hf in
-    mod-eq-of-lt (omega arith) ∙ omega arith
+-- the mesopic divisor passes no 96 bits as it is worked
+pub mesopic-divisor-small : (d f : ℕ) → d ≤ 100000000000000000 → f ≤ 1000000 → d * f + 0 < 2 ^ 96
+mesopic-divisor-small d f hd hf = let x : d * f ≤ 100000000000000000 * 1000000 = mul-le-mul hd hf in omega arith
+
+mesopic-ratio : (s w d : ℕ) → w ≤ s * 4000000000000000000000000 → s * 10 ^ 16 * 402000 ≤ d → 683000 * w ≤ 1000000000 * d
+mesopic-ratio s w d p q = omega arith
+
+pub efficacy-small : (o : ℕ) → ofObserver o 683 684 ≤ 1700
+efficacy-small o = go (eqb o 10)
+  where
+    go : (ten : Bool) → cond ten 684 683 ≤ 1700
+    go true = lit≤ tt
+    go false = lit≤ tt
+
+-- every reading of an accepted light is a number of 32 bits
+module _ (a s : ℕ) (xs : List ℕ) (fine : lightCheck a s xs ≡ Fine) where
+  step-some : 0 < s
+  step-some = on-grid a s xs fine .step-low
+
+  small : (c : Curve) → weighed c a s xs ≤ s * 2000000000000000000000
+  small = weighed-small a s xs step-some (within a s xs fine)
+
+  pub millilux-fits : (f : ℕ) → f ≤ 1700 → (c : Curve) → Fits (f * weighed c a s xs) (s * 10 ^ 16)
+  millilux-fits f few c =
+      let some = step-some in
+      let sum = small c in
+      let x : f * weighed c a s xs ≤ 1700 * weighed c a s xs = mul-le-mul-right (weighed c a s xs) few in
+      record { divisor = omega arith; most = nearest-bound 4294967295 (f * weighed c a s xs) (s * 10 ^ 16) (omega arith) }
+
+  pub mesopic-fits : (k : ℕ) → k ≤ 1000 → Fits (mesopicSum k a s xs) (mesopicDivisor k s)
+  mesopic-fits k few =
+      let some = step-some in
+      let scale : 0 < s * 10 ^ 16 = omega arith in
+      let bracket : 402000 ≤ 1000 * k + 402 * (1000 - k) = omega arith in
+      let day : k * weighed YBar a s xs ≤ 1000 * weighed YBar a s xs = mul-le-mul-right (weighed YBar a s xs) few in
+      let night : (1000 - k) * weighed VPrime a s xs ≤ 1000 * weighed VPrime a s xs = mul-le-mul-right (weighed VPrime a s xs) (omega arith) in
+      let sum-day = small YBar in
+      let sum-night = small VPrime in
+      let sum : mesopicWeighed k a s xs ≤ s * 4000000000000000000000000 = omega arith in
+      let divisor : s * 10 ^ 16 * 402000 ≤ mesopicDivisor k s = mul-le-mul-left (s * 10 ^ 16) bracket in
+      let most = nearest-bound 1000000000 (mesopicSum k a s xs) (mesopicDivisor k s) (mesopic-ratio s _ _ sum divisor) in
+      record { divisor = mul-pos scale (omega arith); most = omega arith }

@@ -5,26 +5,32 @@ use lib.Dec.{leb}
 use Rattle.grid.specs.Refusals.{MESOPIC, OBSERVER}
 use Rattle.grid.specs.declared.Check.{Check}
 use Rattle.grid.specs.Check.{unless, require, isObserver, lightCheck}
+use Rattle.mixing.specs.Nearest.{nearest}
 use Rattle.tables.specs.declared.Curve.{Curve}
 use Rattle.tables.specs.declared.Curve.the-variants.{YBar, YBar10, VPrime}
 use Rattle.tables.specs.Curves.{weightOf}
 use Rattle.spectrum.specs.Line.{W}
 use Rattle.answers.specs.declared.Reading.{Reading}
+use Rattle.answers.specs.declared.Xyz.{Xyz}
 use Rattle.answers.specs.declared.XyzAnswer.{XyzAnswer}
 use Rattle.answers.specs.declared.XyAnswer.{XyAnswer}
 use Rattle.answers.specs.declared.ChartAnswer.{ChartAnswer}
-use Rattle.answers.specs.Worked.{readingFrom, xyzFrom, xyFrom, onChart}
+use Rattle.answers.specs.Worked.{xyzFrom, xyFrom, onChart}
 use Rattle.curves.specs.Observer.{ofObserver, curvesOf}
+use Rattle.readings.specs.declared.figures.ReportFigures.{ReportFigures}
 use Rattle.readings.specs.declared.figures.FiguresAnswer.{FiguresAnswer}
 
 -- W of a curve
 abbrev pub weighed : Curve → ℕ → ℕ → List ℕ → ℕ
 weighed c a s xs = W (weightOf c) a s xs
 
--- an illuminance in millilux: efficacy · W / (s · 10^16)
+-- in millilux: the nearest of efficacy · W / (s · 10^16)
+abbrev pub millilux : Curve → ℕ → ℕ → ℕ → List ℕ → ℕ
+millilux c efficacy a s xs = nearest (efficacy * weighed c a s xs) (s * 10 ^ 16)
+
+-- an illuminance of a light
 unfoldable pub illuminanceOf : Curve → ℕ → ℕ → ℕ → List ℕ → Reading
-illuminanceOf c efficacy a s xs =
-    unless (lightCheck a s xs) Reading.Refused (readingFrom (efficacy * weighed c a s xs) (s * 10 ^ 16))
+illuminanceOf c efficacy a s xs = unless (lightCheck a s xs) Reading.Refused (Reading.Value (millilux c efficacy a s xs))
 
 -- photopic: 683 W(V) / (s · 10^16), V being ȳ
 abbrev pub photopicOf : ℕ → ℕ → List ℕ → Reading
@@ -57,7 +63,7 @@ mesopicDivisor k s = s * 10 ^ 16 * (1000 * k + 402 * (1000 - k))
 -- the mesopic reading at k
 unfoldable pub mesopicOf : ℕ → ℕ → ℕ → List ℕ → Reading
 mesopicOf k a s xs =
-    unless (mesopicCheck k a s xs) Reading.Refused (readingFrom (mesopicSum k a s xs) (mesopicDivisor k s))
+    unless (mesopicCheck k a s xs) Reading.Refused (Reading.Value (nearest (mesopicSum k a s xs) (mesopicDivisor k s)))
 
 -- OBSERVER: neither 2 nor 10
 abbrev pub colourCheck : ℕ → ℕ → ℕ → List ℕ → Check
@@ -74,30 +80,34 @@ abbrev pub zSum : ℕ → ℕ → ℕ → List ℕ → ℕ
 zSum o a s xs = weighed (curvesOf o .z) a s xs
 
 -- X, Y, Z in millilux: 683 W / (s · 10^16), and 684 for observer 10
+abbrev pub lightXyz : ℕ → ℕ → ℕ → List ℕ → Xyz
+lightXyz o a s xs =
+    xyzFrom (ofObserver o 683 684 * xSum o a s xs) (ofObserver o 683 684 * ySum o a s xs) (ofObserver o 683 684 * zSum o a s xs)
+    (s * 10 ^ 16)
+
 unfoldable pub xyzOf : ℕ → ℕ → ℕ → List ℕ → XyzAnswer
-xyzOf o a s xs =
-    unless (colourCheck o a s xs) XyzAnswer.Refused
-    (xyzFrom (ofObserver o 683 684 * xSum o a s xs) (ofObserver o 683 684 * ySum o a s xs) (ofObserver o 683 684 * zSum o a s xs)
-    (s * 10 ^ 16))
+xyzOf o a s xs = unless (colourCheck o a s xs) XyzAnswer.Refused (XyzAnswer.Value (lightXyz o a s xs))
 
 -- x and y, from the exact sums
+abbrev pub lightXy : ℕ → ℕ → ℕ → List ℕ → XyAnswer
+lightXy o a s xs = xyFrom (xSum o a s xs) (ySum o a s xs) (zSum o a s xs)
+
 unfoldable pub xyOf : ℕ → ℕ → ℕ → List ℕ → XyAnswer
-xyOf o a s xs = unless (colourCheck o a s xs) XyAnswer.Refused (xyFrom (xSum o a s xs) (ySum o a s xs) (zSum o a s xs))
+xyOf o a s xs = unless (colourCheck o a s xs) XyAnswer.Refused (lightXy o a s xs)
 
 -- dark where x and y would be refused DARK; the other refusals hold as for x and y
 unfoldable pub chartOf : ℕ → ℕ → ℕ → List ℕ → ChartAnswer
-chartOf o a s xs =
-    unless (colourCheck o a s xs) ChartAnswer.Refused
-    (ChartAnswer.Given (onChart (xyFrom (xSum o a s xs) (ySum o a s xs) (zSum o a s xs))))
+chartOf o a s xs = unless (colourCheck o a s xs) ChartAnswer.Refused (ChartAnswer.Given (onChart (lightXy o a s xs)))
 
--- four answers as one: the first refusal among photopic, scotopic and X, Y, Z, or all figures
-abbrev pub figuresTogether : Reading → Reading → XyzAnswer → XyAnswer → FiguresAnswer
-figuresTogether (Reading.Refused r) scotopic xyz xy = FiguresAnswer.Refused r
-figuresTogether (Reading.Value p) (Reading.Refused r) xyz xy = FiguresAnswer.Refused r
-figuresTogether (Reading.Value p) (Reading.Value q) (XyzAnswer.Refused r) xy = FiguresAnswer.Refused r
-figuresTogether (Reading.Value p) (Reading.Value q) (XyzAnswer.Value v) xy =
-    FiguresAnswer.Value (record { photopic = p; scotopic = q; xyz = v; xy = xy })
+-- the figures of the report, at observer 2, each as it is given by itself: x and y may be dark beside the others
+abbrev pub lightFigures : ℕ → ℕ → List ℕ → ReportFigures
+lightFigures a s xs =
+    record {
+      photopic = millilux YBar 683 a s xs;
+      scotopic = millilux VPrime 1700 a s xs;
+      xyz = lightXyz 2 a s xs;
+      xy = lightXy 2 a s xs;
+    }
 
--- the figures of the report, at observer 2
-abbrev pub figuresOf : ℕ → ℕ → List ℕ → FiguresAnswer
-figuresOf a s xs = figuresTogether (photopicOf a s xs) (scotopicOf a s xs) (xyzOf 2 a s xs) (xyOf 2 a s xs)
+unfoldable pub figuresOf : ℕ → ℕ → List ℕ → FiguresAnswer
+figuresOf a s xs = unless (lightCheck a s xs) FiguresAnswer.Refused (FiguresAnswer.Value (lightFigures a s xs))

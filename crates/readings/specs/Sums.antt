@@ -1,17 +1,19 @@
 -- What the sums of a light, or of a part of its row, stand for: no promise to a caller rests on the reading of this.
 use mathlib.Core.Path.{_≡_}
 use mathlib.Core.List.{List}
-use Prim.Native.Nat.{ℕ, _*_}
+use Prim.Native.Nat.{ℕ, _+_, _*_, _^_, _<_}
+use Rattle.mixing.specs.Nearest.{nearest}
 use Rattle.exact.specs.Value.{short}
+use Rattle.exact.specs.Fits.{Fits}
 use Rattle.curves.specs.declared.weigh.Sums.{Sums}
 use Rattle.curves.specs.Observer.{SumsBy}
 use Rattle.answers.specs.declared.from_sums.SumsAnswer.{SumsAnswer}
-use Rattle.answers.specs.Worked.{readingFrom, xyzFrom, xyFrom}
-use Rattle.answers.specs.FromSums.{Summed}
+use Rattle.answers.specs.Worked.{xyzFrom, xyFrom}
+use Rattle.answers.specs.FromSums.{Summed, XyzFit}
 use Rattle.tables.specs.declared.Curve.the-variants.{VPrime}
 use Rattle.readings.specs.declared.sums.FigureSums.{FigureSums}
-use Rattle.readings.specs.declared.figures.FiguresAnswer.{FiguresAnswer}
-use Rattle.readings.specs.Readings.{weighed, colourCheck, figuresTogether}
+use Rattle.readings.specs.declared.figures.ReportFigures.{ReportFigures}
+use Rattle.readings.specs.Readings.{weighed, colourCheck}
 
 -- W of each of the observer's curves
 abbrev pub LightSums : ℕ → ℕ → ℕ → List ℕ → Sums → Type 0
@@ -26,7 +28,18 @@ pub record FigureSumsOf (a s : ℕ) (xs : List ℕ) (sums : FigureSums) : Type 0
   pub colour : LightSums 2 a s xs (sums .colour)
   pub night : short (sums .night) ≡ weighed VPrime a s xs
 
--- the figures of the report from the sums x, y, z of observer 2 and that of V′, over d
-abbrev pub figuresFrom : ℕ → ℕ → ℕ → ℕ → ℕ → FiguresAnswer
+-- four sums whose figures over d are numbers of 32 bits
+pub record FiguresFit (sums : FigureSums) (d : ℕ) : Type 0 where
+  pub total : short (sums .colour .x) + short (sums .colour .y) + short (sums .colour .z) < 2 ^ 96
+  pub xyz : XyzFit (683 * short (sums .colour .x)) (683 * short (sums .colour .y)) (683 * short (sums .colour .z)) d
+  pub scotopic : Fits (1700 * short (sums .night)) d
+
+-- the figures of the report from the sums x, y, z of observer 2 and that of V′, over d: photopic is Y
+abbrev pub figuresFrom : ℕ → ℕ → ℕ → ℕ → ℕ → ReportFigures
 figuresFrom x y z night d =
-    figuresTogether (readingFrom (683 * y) d) (readingFrom (1700 * night) d) (xyzFrom (683 * x) (683 * y) (683 * z) d) (xyFrom x y z)
+    record {
+      photopic = nearest (683 * y) d;
+      scotopic = nearest (1700 * night) d;
+      xyz = xyzFrom (683 * x) (683 * y) (683 * z) d;
+      xy = xyFrom x y z;
+    }

@@ -25,7 +25,9 @@ pub fn xyz(observer: u32, start: u32, step: u32, samples: &[u32]) -> XyzAnswer
 {
     let answer = light_sums(observer, start, step, samples);
     match answer {
-        SumsAnswer::Given(sums) => xyz_from(sums, efficacy(observer), scale(step)),
+        SumsAnswer::Given(sums) => {
+            XyzAnswer::Value(xyz_from(efficacy(observer), sums, scale(step)))
+        }
         SumsAnswer::Refused(refusal) => XyzAnswer::Refused(refusal),
     }
 }

@@ -6,10 +6,10 @@ mod sums;
 use crate::sums::mesopic_weighed;
 use crate::sums::weighed;
 use answers::Reading;
-use answers::work::reading_from;
 use exact::digits::Short;
 use exact::digits::joined;
 use exact::digits::short_times_plus;
+use exact::divide::nearest;
 use grid::Check;
 use grid::Refusal;
 use grid::check_light;
@@ -18,10 +18,10 @@ use spectrum::line::begin_at_360;
 use tables::Curve;
 ghost use mathlib.Core.Path.{_≡_};
 ghost use Prim.Native.Nat.{_*_, _^_, _≤_};
+ghost use Rattle.mixing.specs.Nearest.{nearest as nearestOf};
 ghost use Rattle.exact.specs.Value.{short};
 ghost use Rattle.grid.specs.declared.Check.the-variants.{Fine};
 ghost use Rattle.grid.specs.Check.{lightCheck};
-ghost use Rattle.answers.specs.Worked.{readingFrom};
 ghost use Rattle.readings.specs.Readings.{illuminanceOf, photopicOf, scotopicOf, photopic10Of, mesopicOf, mesopicSum, mesopicDivisor};
 
 // Photopic illuminance in millilux.
@@ -45,7 +45,9 @@ pub fn photopic_10(start: u32, step: u32, samples: &[u32]) -> Reading
     illuminance(Curve::YBar10, 684, start, step, samples)
 }
 
+// At most 1700, the scotopic efficacy, leaves every reading within 32 bits.
 fn illuminance(curve: Curve, efficacy: u32, start: u32, step: u32, samples: &[u32]) -> Reading
+    requires { ⌜ efficacy ≤ 1700 ⌝ }
     ensures { λ r. ⌜ r ≡ illuminanceOf curve efficacy start step (now (samples .entry)) ⌝ }
 {
     let check = check_light(start, step, samples);
@@ -54,7 +56,7 @@ fn illuminance(curve: Curve, efficacy: u32, start: u32, step: u32, samples: &[u3
             let begin = begin_at_360(start, step);
             let j = begin.place;
             let sum = weighed(curve, begin.wavelength, step, &samples[j..]);
-            reading_from(sum, efficacy, scale(step))
+            Reading::Value(nearest(efficacy, sum, scale(step)))
         }
         Check::Refused(refusal) => Reading::Refused(refusal),
     }
@@ -80,22 +82,22 @@ pub fn mesopic(k: u32, start: u32, step: u32, samples: &[u32]) -> Reading
     }
     let check = check_light(start, step, samples);
     match check {
-        Check::Fine => mesopic_of_light(k, start, step, samples),
+        Check::Fine => Reading::Value(mesopic_of_light(k, start, step, samples)),
         Check::Refused(refusal) => Reading::Refused(refusal),
     }
 }
 
-fn mesopic_of_light(k: u32, start: u32, step: u32, samples: &[u32]) -> Reading
+fn mesopic_of_light(k: u32, start: u32, step: u32, samples: &[u32]) -> u32
     requires { ⌜ (k ≤ 1000) × (lightCheck start step (now samples) ≡ Fine) ⌝ }
-    ensures { λ r. ⌜ r ≡ readingFrom (mesopicSum k start step (now (samples .entry))) (mesopicDivisor k step) ⌝ }
+    ensures { λ r. ⌜ r ≡ nearestOf (mesopicSum k start step (now (samples .entry))) (mesopicDivisor k step) ⌝ }
 {
     let begin = begin_at_360(start, step);
     let j = begin.place;
     let sum = mesopic_weighed(k, begin.wavelength, step, &samples[j..]);
     let bracket = 1000 * k + 402 * (1000 - k);
-    reading_from(
-        sum,
+    nearest(
         683000,
+        sum,
         short_times_plus(scale(step), bracket, joined(0, 0)),
     )
 }

@@ -10,7 +10,7 @@ use spectrum::line::lay;
 use spectrum::line::unmeasured;
 use tables::Curve;
 ghost use mathlib.Core.Path.{_≡_};
-ghost use Prim.Native.Nat.{_≤_};
+ghost use Prim.Native.Nat.{_+_, _*_, _-_, _≤_};
 ghost use Rattle.exact.specs.Value.{short};
 ghost use Rattle.spectrum.specs.Begin.{Begun};
 ghost use Rattle.readings.specs.Readings.{weighed as weighedBy, mesopicWeighed};
@@ -33,8 +33,15 @@ pub fn mesopic_weighed(k: u32, first: u32, step: u32, part: &[u32]) -> Short
 {
     let mut row = unmeasured();
     lay(first, step, part, &mut row);
-    let night = short_times_plus(weigh(Curve::VPrime, &row), 1000 - k, joined(0, 0));
-    short_times_plus(weigh(Curve::YBar, &row), k, night)
+    mixed(k, weigh(Curve::YBar, &row), weigh(Curve::VPrime, &row))
+}
+
+// k · day + (1000 - k) · night.
+fn mixed(k: u32, day: Short, night: Short) -> Short
+    requires { ⌜ (k ≤ 1000) × (short day ≤ 20000000000000000000000) × (short night ≤ 20000000000000000000000) ⌝ }
+    ensures { λ r. ⌜ short r ≡ k * short day + (1000 - k) * short night ⌝ }
+{
+    short_times_plus(day, k, short_times_plus(night, 1000 - k, joined(0, 0)))
 }
 
 // W of each of the observer's three curves.

@@ -51,9 +51,9 @@ fn seven(start: u32, step: u32, samples: &[u32]) -> Result<FiguresAnswer, Refusa
     let line = checked_line(start, step, samples)?;
     let sums = observer.functions.map(|weights| weigh(weights, &line));
     let millilux = |sum: u128| nearest(observer.efficacy * sum, u128::from(step) * SCALE);
-    let [x, y, z] = [millilux(sums[0])?, millilux(sums[1])?, millilux(sums[2])?];
-    let scotopic = nearest(1700 * weigh(&V_PRIME, &line), u128::from(step) * SCALE)?;
-    let (xy_number, [chart_x, chart_y]) = coordinates_or_dark(sums)?;
+    let [x, y, z] = sums.map(millilux);
+    let scotopic = nearest(1700 * weigh(&V_PRIME, &line), u128::from(step) * SCALE);
+    let (xy_number, [chart_x, chart_y]) = coordinates_or_dark(sums);
     Ok(FiguresAnswer {
         number: 0,
         place: 0,
@@ -83,7 +83,8 @@ fn illuminance(
     samples: &[u32],
 ) -> Result<u32, Refusal> {
     let line = checked_line(start, step, samples)?;
-    nearest(efficacy * weigh(weights, &line), u128::from(step) * SCALE)
+    let sum = weigh(weights, &line);
+    Ok(nearest(efficacy * sum, u128::from(step) * SCALE))
 }
 
 fn mixed(k: u32, start: u32, step: u32, samples: &[u32]) -> Result<u32, Refusal> {
@@ -93,22 +94,21 @@ fn mixed(k: u32, start: u32, step: u32, samples: &[u32]) -> Result<u32, Refusal>
     let line = checked_line(start, step, samples)?;
     let k = u128::from(k);
     let mixture = k * weigh(&Y, &line) + (1000 - k) * weigh(&V_PRIME, &line);
-    nearest(
+    Ok(nearest(
         683_000 * mixture,
         u128::from(step) * SCALE * (1000 * k + 402 * (1000 - k)),
-    )
+    ))
 }
 
 fn tristimulus(asked: u32, start: u32, step: u32, samples: &[u32]) -> Result<[u32; 3], Refusal> {
     let observer = observer(asked)?;
     let line = checked_line(start, step, samples)?;
-    let [x, y, z] = observer.functions.map(|weights| {
+    Ok(observer.functions.map(|weights| {
         nearest(
             observer.efficacy * weigh(weights, &line),
             u128::from(step) * SCALE,
         )
-    });
-    Ok([x?, y?, z?])
+    }))
 }
 
 fn chromaticity(asked: u32, start: u32, step: u32, samples: &[u32]) -> Result<[u32; 2], Refusal> {

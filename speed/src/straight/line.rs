@@ -1,6 +1,6 @@
 //! T, the weighted sums W and the rounding: what lights and panels are read with.
 
-use super::refusal::{Refusal, DARK, OBSERVER, OVERRANGE};
+use super::refusal::{Refusal, DARK, OBSERVER};
 use crate::tables::{self, Table, FIRST};
 
 /// An observer's efficacy and its three functions.
@@ -52,19 +52,14 @@ pub fn weigh(weights: &Table, line: &Table) -> u128 {
     products.sum()
 }
 
-/// The nearest whole number, halves up, or 15.
-pub fn nearest(numerator: u128, denominator: u128) -> Result<u32, Refusal> {
-    let nearest = (2 * numerator + denominator) / (2 * denominator);
-    u32::try_from(nearest).map_err(|_| OVERRANGE)
+/// The nearest whole number, halves up: no accepted input has one past 32 bits.
+pub fn nearest(numerator: u128, denominator: u128) -> u32 {
+    ((2 * numerator + denominator) / (2 * denominator)) as u32
 }
 
 /// The number and the values of x and y, where dark ones are 9 and no refusal of the whole.
-pub fn coordinates_or_dark(sums: [u128; 3]) -> Result<(u32, [u32; 2]), Refusal> {
-    match coordinates(sums) {
-        Ok(coordinates) => Ok((0, coordinates)),
-        Err(refusal) if refusal.number == DARK.number => Ok((DARK.number, [0, 0])),
-        Err(refusal) => Err(refusal),
-    }
+pub fn coordinates_or_dark(sums: [u128; 3]) -> (u32, [u32; 2]) {
+    coordinates(sums).map_or_else(|dark| (dark.number, [0, 0]), |coordinates| (0, coordinates))
 }
 
 /// x and y from the three exact sums, or 9.
@@ -74,5 +69,5 @@ pub fn coordinates(sums: [u128; 3]) -> Result<[u32; 2], Refusal> {
     if total == 0 {
         return Err(DARK);
     }
-    Ok([nearest(100_000 * x, total)?, nearest(100_000 * y, total)?])
+    Ok([nearest(100_000 * x, total), nearest(100_000 * y, total)])
 }

@@ -66,7 +66,7 @@ fn five(
 ) -> Result<PanelFiguresAnswer, Refusal> {
     let sums = sums(observer, illuminant, start, step, reflectances)?;
     let [x, y, z] = thousandths(observer, illuminant, step, sums)?;
-    let (xy_number, [chart_x, chart_y]) = coordinates_or_dark(sums)?;
+    let (xy_number, [chart_x, chart_y]) = coordinates_or_dark(sums);
     Ok(PanelFiguresAnswer {
         number: 0,
         place: 0,
@@ -100,8 +100,7 @@ fn thousandths(
     let [_, y_weights, _] = observer(asked_observer)?.functions;
     // The white runs over 360 to 830 whatever the panel's own range.
     let white = weigh(y_weights, illuminant(asked_illuminant)?);
-    let [x, y, z] = sums.map(|sum| nearest(10 * sum, u128::from(step) * white));
-    Ok([x?, y?, z?])
+    Ok(sums.map(|sum| nearest(10 * sum, u128::from(step) * white)))
 }
 
 /// The panel's exact X, Y and Z sums, or the first of 6, 7, 1, 2, 3, 8.

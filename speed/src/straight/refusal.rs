@@ -20,7 +20,6 @@ pub const RESERVED: Refusal = refusal(11);
 pub const LENGTH: Refusal = refusal(12);
 pub const PADDING: Refusal = refusal(13);
 pub const ROOM: Refusal = refusal(14);
-pub const OVERRANGE: Refusal = refusal(15);
 
 const LARGEST_SAMPLE: u32 = 1_000_000;
 

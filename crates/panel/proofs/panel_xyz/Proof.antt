@@ -1,5 +1,4 @@
 -- Each of X, Y, Z is its sum times 10, divided once by s times the white sum.
-use mathlib.Core.Path.{_∙_}
 use Rattle.answers.proofs.FromSums.{refused-sums}
 use Rattle.panel.specs.Panel.{panelXyzOf}
 use Rattle.panel.proofs.Worked.{Worked, worked}
@@ -18,14 +17,16 @@ work :
 work c = let p = summed c in worked _ _ _ _ _ (p .panel-sums .result) (p .panel-sums .ensures) _ (c .before .answer .given .1)
 
 divisor-requires : tie.Need-divisor-requires
-divisor-requires c κs =
-    work c .step-small
+divisor-requires c κs = work c .step-small
+
+xyz-from-requires : tie.Need-xyz-from-requires
+xyz-from-requires c κs = rw (c .divisor .ensures) (work (c .before) .fits)
 
 returns : tie.Need-returns
 unfolding panelXyzOf
 returns c =
     let w = work (c .before .before) in
-    rw (w .fine) (c .xyz-from .ensures ∙ w .xyz _ (c .before .divisor .ensures))
+    rw (w .fine, c .xyz-from .ensures, c .before .divisor .ensures, w .xyz)
 
 returns-2 : tie.Need-returns-2
 unfolding panelXyzOf
@@ -40,7 +41,7 @@ panel-xyz-spec =
     (λ c κs. search needs)
     (λ c. search needs)
     divisor-requires
-    (λ c κs. search needs)
+    xyz-from-requires
     (λ c. search needs)
     returns
     returns-2)

@@ -1,8 +1,8 @@
 -- The sum over the part is an accepted light's, and is divided once.
 use mathlib.Core.Path.{_∙_, sym}
 use native.Mathlib.Omega.{arith}
-use Rattle.answers.proofs.Values.{reading-factor}
 use Rattle.readings.specs.Readings.{illuminanceOf}
+use Rattle.readings.proofs.Small.{millilux-fits}
 use Rattle.readings.proofs.Part.{AcceptedLight, sought, step-small, BegunLight, in-row, part-begun, weighed-begun}
 use borrow.Author.Needs.{needs}
 use Rattle.readings.proofs.illuminance.Statement.{statement}
@@ -36,12 +36,19 @@ weighed-requires c κs = part-begun (part (c .before))
 scale-requires : tie.Need-scale-requires
 scale-requires c κs = step-small (light (c .before .before .before))
 
+nearest-requires : tie.Need-nearest-requires
+nearest-requires c κs =
+    let sum = c .before in
+    let is = part (sum .before .before) in
+    let t = begin (sum .before .before .before) .args in
+    rw (sum .weighed .ensures, weighed-begun is, c .scale .ensures) (millilux-fits (t .start) (t .step) (t .samples .now) (is .light .fine) (t .efficacy) (begin (sum .before .before .before) .pre) (t .curve))
+
 returns : tie.Need-returns
 unfolding illuminanceOf
 returns c =
     let sum = c .before .before in
     let is = part (sum .before .before) in
-    c .reading-from .ensures ∙ reading-factor _ _ _ ∙ rw (sum .weighed .ensures, weighed-begun is, c .before .scale .ensures, is .light .fine)
+    rw (c .nearest .ensures, sum .weighed .ensures, weighed-begun is, c .before .scale .ensures, is .light .fine)
 
 returns-2 : tie.Need-returns-2
 unfolding illuminanceOf
@@ -60,7 +67,7 @@ illuminance-spec =
     (λ c. search needs)
     weighed-requires
     scale-requires
-    (λ c κs. search needs)
+    nearest-requires
     (λ c. search needs)
     returns
     returns-2)

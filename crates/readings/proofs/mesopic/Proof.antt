@@ -28,7 +28,7 @@ mesopic-of-light-requires c κs = (c .before .before .before .if1 .left, fine c)
 
 returns-2 : tie.Need-returns-2
 unfolding mesopicOf
-returns-2 c = let told = c .before in rw (setting (told .before .before), fine told) (c .mesopic-of-light .ensures)
+returns-2 c = let told = c .before in rw (setting (told .before .before), fine told, c .mesopic-of-light .ensures)
 
 returns-3 : tie.Need-returns-3
 unfolding mesopicOf

@@ -1,12 +1,12 @@
 -- The sum over the part is the light's, and the divisor passes no 96 bits.
 use mathlib.Core.Path.{_≡_, _∙_}
 use Prim.Native.Nat.{_+_, _*_, _-_, _^_}
+use native.Mathlib.Nat.{add-zero}
 use native.Mathlib.Omega.{arith}
 use Rattle.exact.specs.Value.{short}
 use Rattle.tables.specs.declared.Curve.the-variants.{YBar, VPrime}
-use Rattle.answers.proofs.Values.{reading-factor}
 use Rattle.readings.specs.Readings.{mesopicWeighed, mesopicDivisor}
-use Rattle.readings.proofs.Small.{mesopic-divisor-kept}
+use Rattle.readings.proofs.Small.{mesopic-divisor-small, mesopic-fits}
 use Rattle.readings.proofs.Part.{AcceptedLight, sought, step-small, BegunLight, in-row, part-begun, weighed-begun}
 use borrow.Author.Needs.{needs}
 use Rattle.readings.proofs.mesopic_of_light.Statement.{statement}
@@ -29,15 +29,15 @@ sum-is c =
     c .mesopic-weighed .ensures ∙ rw (weighed-begun is YBar, weighed-begun is VPrime)
 
 divisor-is :
+    (c : tie.After-joined) →
+    let t = begin (c .before .before) .args in
+    short (c .before .scale .result) * (1000 * t .k + 402 * (1000 - t .k)) + short (c .joined .result) ≡ mesopicDivisor (t .k) (t .step) + 0
+divisor-is c = rw (c .before .scale .ensures, c .joined .ensures)
+
+divisor-worked :
     (c : tie.After-short-times-plus) →
     let t = begin (c .before .before .before) .args in short (c .short-times-plus .result) ≡ mesopicDivisor (t .k) (t .step)
-divisor-is c =
-    let s = begin (c .before .before .before) in
-    let few = s .pre .0 in
-    let high = step-small (light s) in
-    c .short-times-plus .ensures
-    ∙ rw (c .before .before .scale .ensures, c .before .joined .ensures)
-    (mesopic-divisor-kept (s .args .step * 10 ^ 16) (1000 * s .args .k + 402 * (1000 - s .args .k)) (omega arith) (omega arith))
+divisor-worked c = c .short-times-plus .ensures ∙ divisor-is (c .before) ∙ add-zero _
 
 begin-at-360-requires : tie.Need-begin-at-360-requires
 begin-at-360-requires c κs = sought (light (c .before))
@@ -57,10 +57,23 @@ mesopic-weighed-requires c κs = (c .before .before .before .pre .0, part-begun 
 scale-requires : tie.Need-scale-requires
 scale-requires c κs = step-small (light (begin c))
 
+short-times-plus-requires : tie.Need-short-times-plus-requires
+short-times-plus-requires c κs =
+    let s = begin (c .before .before) in
+    let few = s .pre .0 in
+    let high = step-small (light s) in
+    rw (divisor-is c)
+    (mesopic-divisor-small (s .args .step * 10 ^ 16) (1000 * s .args .k + 402 * (1000 - s .args .k)) (omega arith) (omega arith))
+
+nearest-requires : tie.Need-nearest-requires
+nearest-requires c κs =
+    let worked = c .before .before .before in
+    let s = begin worked in
+    let t = s .args in
+    rw (sum-is worked, divisor-worked c) (mesopic-fits (t .start) (t .step) (t .samples .now) (s .pre .1) (t .k) (s .pre .0))
+
 returns : tie.Need-returns
-returns c =
-    let divisor = c .before in
-    c .reading-from .ensures ∙ reading-factor _ _ _ ∙ rw (sum-is (divisor .before .before .before), divisor-is divisor)
+returns c = rw (c .nearest .ensures, sum-is (c .before .before .before .before), divisor-worked (c .before))
 
 pub mesopic-of-light-spec : {M : Type 1} → statement M
 mesopic-of-light-spec =
@@ -78,6 +91,6 @@ mesopic-of-light-spec =
     (λ c. search needs)
     scale-requires
     (λ c κs. search needs)
-    (λ c κs. search needs)
-    (λ c κs. search needs)
+    short-times-plus-requires
+    nearest-requires
     returns)

@@ -4,7 +4,7 @@ use std::collections::BTreeMap;
 use std::fmt;
 
 /// 0 for a given value, and the rules' refusals.
-const NUMBERS: usize = 16;
+const NUMBERS: usize = 15;
 
 #[derive(Default)]
 pub struct Tally {
@@ -18,7 +18,7 @@ impl Tally {
     }
 }
 
-/// One line for each function: its inputs, the given values, the refusals 1 to 15.
+/// One line for each function: its inputs, the given values, the refusals 1 to 14.
 impl fmt::Display for Tally {
     fn fmt(&self, f: &mut fmt::Formatter) -> fmt::Result {
         write!(f, "{:16}{:>7}{:>7}", "function", "inputs", "given")?;

@@ -1,9 +1,10 @@
 -- The total is the exact sum, since it does not pass 96 bits.
 use mathlib.Core.Path.{_≡_, _∙_, sym}
-use Prim.Native.Nat.{_+_}
+use Prim.Native.Nat.{_+_, _<_}
 use native.Mathlib.Omega.{arith}
 use Rattle.exact.specs.Value.{short}
 use Rattle.answers.specs.Worked.{xyFrom}
+use borrow.Author.Tests.{eqb-false}
 use borrow.Author.Needs.{needs}
 use Rattle.answers.proofs.work.xy_from.Statement.{statement}
 use Rattle.answers.proofs.work.xy_from.Tie as tie
@@ -20,6 +21,18 @@ returns : tie.Need-returns
 unfolding xyFrom
 returns c = rw (exact-sum (c .before .before), sym (c .before .is-zero .ensures) ∙ c .if1 .taken)
 
+-- the total is not 0
+lit : (c : tie.Else1) → 0 < short (c .before .before .short-times-plus2 .result)
+lit c =
+    let some = eqb-false (short (c .before .before .short-times-plus2 .result)) 0 (sym (c .before .is-zero .ensures) ∙ c .if1 .left) in
+    omega arith
+
+coordinate-requires : tie.Need-coordinate-requires
+coordinate-requires c κs = (omega (arith, exact-sum (c .before .before)), lit c)
+
+coordinate-requires-2 : tie.Need-coordinate-requires-2
+coordinate-requires-2 c κs = (omega (arith, exact-sum (c .before .before .before)), lit (c .before))
+
 returns-2 : tie.Need-returns-2
 unfolding xyFrom
 returns-2 c =
@@ -34,6 +47,6 @@ xy-from-spec =
     (λ c κs. search needs)
     (λ c κs. search needs)
     returns
-    (λ c κs. search needs)
-    (λ c κs. search needs)
+    coordinate-requires
+    coordinate-requires-2
     returns-2)

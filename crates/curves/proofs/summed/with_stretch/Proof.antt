@@ -1,5 +1,5 @@
 -- The loop's invariant: with the sum of the places before the stretch, its sum so far is that of all places so far.
-use mathlib.Core.Path.{_≡_, _∙_, ap, ap₂, subst}
+use mathlib.Core.Path.{_≡_, _∙_, ap₂, subst}
 use mathlib.Core.List.{List}
 use Prim.Native.Nat.{ℕ, _+_, _*_, _-_, _%_, _^_, _≤_, _<_}
 use native.Mathlib.Nat.{zero-add, mod-eq-of-lt}
@@ -71,19 +71,25 @@ add-k c = let inside = begun (c .before .before) .pre .0 .inside in omega arith
 loop-again : tie.Need-loop-again Inv-loop μ-loop
 loop-again c = (omega arith, omega arith, sum-next (c .before .before))
 
-returns : tie.Need-returns Inv-loop μ-loop
-returns c =
-    let s = c .before .before .before .before in
-    let l = c .before .before .before .loop in
+-- behind the loop the sum is the stretch's
+summed :
+    (c : tie.After-joined Inv-loop μ-loop) →
+    let t = c .before .before .before .args in short (c .joined .result) ≡ stretchSum (t .weights .now) (t .row .now) (t .begin) (t .end)
+summed c =
+    let s = c .before .before .before in
+    let l = c .before .before .loop in
     let t = s .args in
     let ws = entryOf (t .weights .now) in
     let line = entryOf (t .row .now) in
     let end : l .k ≡ t .end = omega arith in
     let all = subst (λ q. l .sum + weighted (t .begin) ws line ≡ weighted q ws line) end (l .inv .2) in
-    let most = fits ws line (s .pre .1) (s .pre .0 .counts .all) (t .end) (s .pre .0 .inside) in
-    let whole : (0 * 2 ^ 32 + l .sum) % 2 ^ 96 ≡ stretchSum (t .weights .now) (t .row .now) (t .begin) (t .end) = omega arith in
-    c .short-times-plus .ensures
-    ∙ ap (λ q. (q * t .unit + short (t .before)) % 2 ^ 96) (c .before .joined .ensures ∙ whole)
+    omega (arith, c .joined .ensures)
+
+short-times-plus-requires : tie.Need-short-times-plus-requires Inv-loop μ-loop
+short-times-plus-requires c κs = rw (summed c) (c .before .before .before .pre .2)
+
+returns : tie.Need-returns Inv-loop μ-loop
+returns c = c .short-times-plus .ensures ∙ rw (summed (c .before))
 
 pub with-stretch-spec : {M : Type 1} → statement M
 with-stretch-spec =
@@ -101,6 +107,6 @@ with-stretch-spec =
     add-k
     (λ c. omega arith)
     loop-again
-    (λ c κs. tt)
-    (λ c κs. tt)
+    (λ c κs. search needs)
+    short-times-plus-requires
     returns)

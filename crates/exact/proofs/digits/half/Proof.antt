@@ -1,6 +1,5 @@
 -- Long division by 2, digit by digit.
 use Prim.Native.Nat.{_^_}
-use lib.Dec.{lit<}
 use Rattle.exact.specs.Value.{short}
 use Rattle.exact.proofs.Carry.{halves}
 use borrow.Author.Needs.{needs}
@@ -9,7 +8,7 @@ use Rattle.exact.proofs.digits.half.Tie as tie
 
 returns : tie.Need-returns
 unfolding short
-returns c = halves (2 ^ 32) (lit< tt) _ _ _
+returns c = halves (2 ^ 32) _ _ _
 
 pub half-spec : {M : Type 1} → statement M
 half-spec =

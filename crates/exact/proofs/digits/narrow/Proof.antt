@@ -1,6 +1,5 @@
--- The high digit loses what passes 32 bits.
+-- A number below 2^96 has a high digit of 32 bits.
 use Prim.Native.Nat.{_^_}
-use lib.Dec.{lit<}
 use native.Mathlib.Omega.{arith}
 use Rattle.exact.specs.Value.{short, long}
 use Rattle.exact.proofs.Carry.{narrow}
@@ -8,9 +7,13 @@ use borrow.Author.Needs.{needs}
 use Rattle.exact.proofs.digits.narrow.Statement.{statement}
 use Rattle.exact.proofs.digits.narrow.Tie as tie
 
+cast-high : tie.Need-cast-t2
+unfolding long
+cast-high c = omega (arith, c .before .pre)
+
 returns : tie.Need-returns
 unfolding short long
-returns c = let a = c .before .before .before .args .a in narrow (2 ^ 32) (lit< tt) (a .high) (a .low) (omega arith)
+returns c = narrow (2 ^ 32) _ _
 
 pub narrow-spec : {M : Type 1} → statement M
-narrow-spec = tie.close (tie.spec (λ c. search needs) (λ c. search needs) (λ c. search needs) returns)
+narrow-spec = tie.close (tie.spec cast-high (λ c. search needs) (λ c. search needs) returns)

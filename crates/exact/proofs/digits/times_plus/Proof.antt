@@ -1,6 +1,5 @@
 -- A digit of the product and sum is carried to the next.
 use Prim.Native.Nat.{_^_}
-use lib.Dec.{lit<}
 use Rattle.exact.specs.Value.{short, long}
 use Rattle.exact.proofs.Carry.{times-plus}
 use borrow.Author.Needs.{needs}
@@ -10,7 +9,7 @@ use Rattle.exact.proofs.digits.times_plus.Tie as tie
 returns : tie.Need-returns
 unfolding short long
 returns c =
-    times-plus (2 ^ 32) (lit< tt) _ _ _ _ _ _ _ _ _ _ (c .before .before .digit .ensures) (c .before .digit2 .ensures) (c .digit3 .ensures)
+    times-plus (2 ^ 32) _ _ _ _ _ _ _ _ _ _ (c .before .before .digit .ensures) (c .before .digit2 .ensures) (c .digit3 .ensures)
 
 pub times-plus-spec : {M : Type 1} → statement M
 times-plus-spec =

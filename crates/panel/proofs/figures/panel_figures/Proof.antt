@@ -1,7 +1,6 @@
 -- X, Y, Z and x, y come from the same sums of an accepted panel.
-use mathlib.Core.Path.{_∙_}
 use Rattle.answers.proofs.FromSums.{refused-sums}
-use Rattle.panel.specs.Panel.{panelXyzOf, panelXyOf}
+use Rattle.panel.specs.Figures.{panelFiguresOf}
 use Rattle.panel.proofs.Worked.{Worked, worked}
 use borrow.Author.Needs.{needs}
 use Rattle.panel.proofs.figures.panel_figures.Statement.{statement}
@@ -18,21 +17,23 @@ work :
 work c = let p = summed c in worked _ _ _ _ _ (p .panel-sums .result) (p .panel-sums .ensures) _ (c .before .answer .given .1)
 
 divisor-requires : tie.Need-divisor-requires
-divisor-requires c κs =
-    work c .step-small
+divisor-requires c κs = work c .step-small
 
-figures-from-requires : tie.Need-figures-from-requires
-figures-from-requires c κs =
-    work (c .before) .total-small
+xyz-from-requires : tie.Need-xyz-from-requires
+xyz-from-requires c κs = rw (c .divisor .ensures) (work (c .before) .fits)
+
+xy-from-requires : tie.Need-xy-from-requires
+xy-from-requires c κs = work (c .before .before) .total-small
 
 returns : tie.Need-returns
-unfolding panelXyzOf panelXyOf
+unfolding panelFiguresOf
 returns c =
-    let w = work (c .before .before) in
-    rw (w .fine) (c .figures-from .ensures ∙ rw (w .xyz _ (c .before .divisor .ensures), w .xy))
+    let xyz = c .before in
+    let w = work (xyz .before .before) in
+    rw (w .fine, xyz .xyz-from .ensures, xyz .before .divisor .ensures, w .xyz, c .xy-from .ensures, w .xy)
 
 returns-2 : tie.Need-returns-2
-unfolding panelXyzOf panelXyOf
+unfolding panelFiguresOf
 returns-2 c =
     let p = c .before .before .before in
     rw (refused-sums _ _ _ (p .panel-sums .result) (p .panel-sums .ensures) _ (c .before .answer2 .given .1))
@@ -44,7 +45,8 @@ panel-figures-spec =
     (λ c κs. search needs)
     (λ c. search needs)
     divisor-requires
-    figures-from-requires
+    xyz-from-requires
+    xy-from-requires
     (λ c. search needs)
     returns
     returns-2)

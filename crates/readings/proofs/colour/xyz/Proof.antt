@@ -1,11 +1,12 @@
 -- Each of X, Y, Z is its sum times the efficacy, divided once.
 use mathlib.Core.Path.{_≡_}
 use Rattle.grid.specs.declared.Check.the-variants.{Fine}
-use Rattle.answers.proofs.Values.{xyz-factor}
 use Rattle.answers.proofs.FromSums.{given-sums, refused-sums}
+use Rattle.curves.specs.Observer.{ofObserver}
 use Rattle.readings.specs.Readings.{xyzOf, colourCheck}
 use Rattle.readings.specs.Sums.{LightSums}
-use Rattle.readings.proofs.Part.{light-of, step-small}
+use Rattle.readings.proofs.Small.{efficacy-small}
+use Rattle.readings.proofs.Part.{light-of, step-small, xyz-fit}
 use borrow.Author.Needs.{needs}
 use Rattle.readings.proofs.colour.xyz.Statement.{statement}
 use Rattle.readings.proofs.colour.xyz.Tie as tie
@@ -25,6 +26,14 @@ scale-requires c κs =
     let t = summed (c .before) .before .before .args in
     step-small (light-of (t .observer) (t .start) (t .step) (t .samples .now) (given (c .before) .0))
 
+xyz-from-requires : tie.Need-xyz-from-requires
+xyz-from-requires c κs =
+    let told = c .before .before in
+    let t = summed told .before .before .args in
+    let is = given told in
+    rw (c .before .efficacy .ensures, c .scale .ensures)
+    (xyz-fit (light-of (t .observer) (t .start) (t .step) (t .samples .now) (is .0)) (is .1) (ofObserver (t .observer) 683 684) (efficacy-small (t .observer)))
+
 returns : tie.Need-returns
 unfolding xyzOf
 returns c =
@@ -32,7 +41,6 @@ returns c =
     let is = given (divisor .before .before) in
     rw (
       c .xyz-from .ensures,
-      xyz-factor,
       is .1 .x,
       is .1 .y,
       is .1 .z,
@@ -55,7 +63,7 @@ xyz-spec =
     (λ c. search needs)
     (λ c κs. search needs)
     scale-requires
-    (λ c κs. search needs)
+    xyz-from-requires
     (λ c. search needs)
     returns
     returns-2)

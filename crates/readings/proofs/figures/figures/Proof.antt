@@ -1,9 +1,11 @@
 -- The four sums over the part are an accepted light's.
 use mathlib.Core.Path.{_∙_, sym}
 use native.Mathlib.Omega.{arith}
+use lib.Dec.{lit≤}
 use Rattle.tables.specs.declared.Curve.the-variants.{VPrime}
-use Rattle.readings.specs.Readings.{illuminanceOf, xyzOf, xyOf}
-use Rattle.readings.proofs.Part.{AcceptedLight, sought, step-small, total-small, BegunLight, in-row, part-begun, weighed-begun, colour-begun}
+use Rattle.readings.specs.Readings.{figuresOf}
+use Rattle.readings.proofs.Small.{millilux-fits}
+use Rattle.readings.proofs.Part.{AcceptedLight, sought, step-small, total-small, xyz-fit, BegunLight, in-row, part-begun, weighed-begun, colour-begun}
 use borrow.Author.Needs.{needs}
 use Rattle.readings.proofs.figures.figures.Statement.{statement}
 use Rattle.readings.proofs.figures.figures.Tie as tie
@@ -40,10 +42,16 @@ figures-from-requires : tie.Need-figures-from-requires
 figures-from-requires c κs =
     let sums = c .before in
     let is = part (sums .before .before) in
-    total-small (is .light) (colour-begun is (sums .figure-sums .ensures .colour))
+    let t = begin (sums .before .before .before) .args in
+    let colour = colour-begun is (sums .figure-sums .ensures .colour) in
+    rw (c .scale .ensures) (record {
+      total = total-small (is .light) colour;
+      xyz = xyz-fit (is .light) colour 683 (lit≤ tt);
+      scotopic = rw (sums .figure-sums .ensures .night ∙ weighed-begun is VPrime) (millilux-fits (t .start) (t .step) (t .samples .now) (is .light .fine) 1700 (lit≤ tt) VPrime);
+    })
 
 returns : tie.Need-returns
-unfolding illuminanceOf xyzOf xyOf
+unfolding figuresOf
 returns c =
     let sums = c .before .before in
     let is = part (sums .before .before) in
@@ -52,7 +60,7 @@ returns c =
     rw (c .figures-from .ensures, colour .x, colour .y, colour .z, night, c .before .scale .ensures, is .light .fine)
 
 returns-2 : tie.Need-returns-2
-unfolding illuminanceOf xyzOf xyOf
+unfolding figuresOf
 returns-2 c = rw (sym (c .before .before .before .check-light .ensures) ∙ c .before .check .given .1)
 
 pub figures-spec : {M : Type 1} → statement M

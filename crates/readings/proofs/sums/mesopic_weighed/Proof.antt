@@ -1,11 +1,11 @@
--- The row of the part is laid once, and the sum of the two passes no 96 bits.
-use mathlib.Core.Path.{_∙_}
-use Prim.Native.Nat.{_-_}
+-- The row of the part is laid once, and its two sums are mixed.
+use mathlib.Core.Path.{_≡_, _∙_}
 use native.Mathlib.Omega.{arith}
+use Rattle.exact.specs.Value.{short}
 use Rattle.tables.specs.declared.Curve.the-variants.{YBar, VPrime}
 use Rattle.spectrum.proofs.Light.{begun-small, row-weighed}
 use Rattle.readings.specs.Readings.{weighed}
-use Rattle.readings.proofs.Small.{sum-small, mesopic-sum-kept}
+use Rattle.readings.proofs.Small.{weighed-small}
 use borrow.Author.Needs.{needs}
 use Rattle.readings.proofs.sums.mesopic_weighed.Statement.{statement}
 use Rattle.readings.proofs.sums.mesopic_weighed.Tie as tie
@@ -13,7 +13,7 @@ use Rattle.readings.proofs.sums.mesopic_weighed.Tie as tie
 abbrev begin : tie.After-lay → tie.Start
 begin c = c .before .before .before .before
 
-abbrev laid : tie.After-short-times-plus → tie.After-lay
+abbrev laid : tie.After-weigh2 → tie.After-lay
 laid c = c .before .before .before .before
 
 weigh-requires : tie.Need-weigh-requires
@@ -24,29 +24,29 @@ weigh-requires c κs =
 
 weigh-requires-2 : tie.Need-weigh-requires-2
 weigh-requires-2 c κs =
-    let row = laid (c .before) in
+    let row = c .before .before .before in
     let s = begin row in
     rw (row .lay .ensures) (begun-small 1000000 (s .args .first) (s .args .step) (s .args .part .now) (s .pre .1))
 
-returns : tie.Need-returns
-returns c =
-    let night = c .before .before .before in
-    let row = laid night in
-    let s = begin row in
+-- the row's sums are those of the part
+day-is :
+    (c : tie.After-weigh2) → let t = begin (laid c) .args in short (c .before .before .weigh .result) ≡ weighed YBar (t .first) (t .step) (t .part .now)
+day-is c = rw (laid c .lay .ensures) at (c .before .before .weigh .ensures) ∙ row-weighed _ _ _ _
+
+night-is : (c : tie.After-weigh2) → let t = begin (laid c) .args in short (c .weigh2 .result) ≡ weighed VPrime (t .first) (t .step) (t .part .now)
+night-is c = rw (laid c .lay .ensures) at (c .weigh2 .ensures) ∙ row-weighed _ _ _ _
+
+mixed-requires : tie.Need-mixed-requires
+mixed-requires c κs =
+    let s = begin (laid c) in
     let t = s .args in
     let begun = s .pre .1 in
-    let small = sum-small (t .first) (t .step) (t .part .now) (begun .part .step-low) (begun .part .step-high) (begun .within) in
-    c .short-times-plus2 .ensures
-    ∙ rw (
-      c .before .weigh2 .ensures,
-      night .short-times-plus .ensures,
-      night .before .before .weigh .ensures,
-      night .before .joined .ensures,
-      row .lay .ensures,
-      row-weighed,
-      row-weighed,
-    )
-    (mesopic-sum-kept (weighed YBar (t .first) (t .step) (t .part .now)) (weighed VPrime (t .first) (t .step) (t .part .now)) (t .k) (1000 - t .k) (small YBar) (small VPrime) (s .pre .0) (omega arith))
+    let high = begun .part .step-high in
+    let small = weighed-small (t .first) (t .step) (t .part .now) (begun .part .step-low) (begun .within) in
+    (s .pre .0, omega (arith, day-is c, small YBar), omega (arith, night-is c, small VPrime))
+
+returns : tie.Need-returns
+returns c = c .mixed .ensures ∙ rw (day-is (c .before), night-is (c .before))
 
 pub mesopic-weighed-spec : {M : Type 1} → statement M
 mesopic-weighed-spec =
@@ -55,9 +55,6 @@ mesopic-weighed-spec =
     (λ c κs. search needs)
     (λ c κs. search needs)
     weigh-requires
-    (λ c. search needs)
-    (λ c κs. search needs)
-    (λ c κs. search needs)
     weigh-requires-2
-    (λ c κs. search needs)
+    mixed-requires
     returns)

@@ -6,8 +6,8 @@ use Rattle.grid.specs.Check.{gridCheck, limitCheck, lightCheck}
 use Rattle.tables.specs.Curves.{table}
 use Rattle.tables.specs.Tables.{xBar, yBar, zBar, vPrime}
 use Rattle.spectrum.specs.Line.{lineAt, endRule, T, W}
-use Rattle.answers.specs.Worked.{readingFrom, xyzFrom, xyFrom}
-use Rattle.readings.specs.Readings.{illuminanceOf, xyzOf, xyOf}
+use Rattle.answers.specs.Worked.{xyFrom}
+use Rattle.readings.specs.Readings.{figuresOf}
 use Rattle.record.specs.Bits.{bitsOf, num, pack, cut}
 use Rattle.record.specs.Format.{recordOf, headerOf, fieldsOf, samplesOf, paddingOf}
 use Rattle.record.specs.Answer.{headerCheck, bodyCheck, recordCheck}
@@ -17,7 +17,7 @@ use Rattle.record_promises.proofs.pages.promise_example_page.Statement.
 use Rattle.record_promises.proofs.pages.promise_example_page.Tie as tie
 
 returns : tie.Need-returns
-unfolding nearest weighted total xBar yBar zBar vPrime endRule gridCheck limitCheck table lightCheck lineAt T W readingFrom xyzFrom xyFrom illuminanceOf xyzOf xyOf bitsOf num pack cut recordOf headerOf fieldsOf samplesOf paddingOf headerCheck bodyCheck recordCheck digits coordinate line colourLines figureLines textOf recordedFigures
+unfolding nearest weighted total xBar yBar zBar vPrime endRule gridCheck limitCheck table lightCheck lineAt T W xyFrom figuresOf bitsOf num pack cut recordOf headerOf fieldsOf samplesOf paddingOf headerCheck bodyCheck recordCheck digits coordinate line colourLines figureLines textOf recordedFigures
 returns c = record { page = refl }
 
 pub promise-example-page-spec : {M : Type 1} → statement M

@@ -1,0 +1,140 @@
+-- The greatest readings: no sum passes that of a light at the limit everywhere, whose readings are computed from the tables' sums.
+use mathlib.Core.Path.{_≡_, sym}
+use mathlib.Core.Bool.{true}
+use mathlib.Core.List.{List, [], _∷_}
+use Prim.Native.Nat.{ℕ, zero, suc, _+_, _*_, _-_, _^_, _≤_, zero-le}
+use native.Mathlib.Nat.{mul-add, mul-assoc, mul-left-comm, mul-le-mul-left, add-le-add}
+use native.Mathlib.Omega.{arith}
+use borrow.Author.Tests.{le-leb}
+use lib.ListN.{getD}
+use Rattle.grid.specs.declared.Check.the-variants.{Fine}
+use Rattle.grid.specs.Check.{isObserver, isStep, lightCheck}
+use Rattle.grid.proofs.Light.{within, on-grid}
+use Rattle.mixing.specs.Nearest.{nearest}
+use Rattle.mixing.proofs.Nearest.{nearest-cancel, nearest-scaled, nearest-lt}
+use Rattle.tables.specs.declared.Curve.{Curve}
+use Rattle.tables.specs.declared.Curve.the-variants.{YBar, VPrime}
+use Rattle.tables.specs.Curves.{weightOf}
+use Rattle.tables.specs.Columns.{tableSum}
+use Rattle.tables.proofs.Columns.{column-total}
+use Rattle.answers.specs.Said.{saidReading, saidXyz, saidXy, saidChart}
+use Rattle.answers.proofs.Values.{xy-lit, xy-given, chart-number}
+use Rattle.curves.specs.Observer.{ofObserver, curvesOf}
+use Rattle.readings.specs.Readings.{millilux, illuminanceOf, mesopicOf, mesopicSum, mesopicDivisor, xSum, ySum, zSum, xyzOf, xyOf, chartOf, figuresOf}
+use Rattle.readings.specs.Figures.{saidFigures}
+use Rattle.readings.proofs.Small.{weighed-most}
+use Rattle.light_promises.specs.Range.{full, Greatest, mesopicGreatest, UnlessDark}
+use Rattle.light_promises.proofs.Full.{step-some, light-accepted, light-sum, at-limit, no-more}
+
+module _ (c : Curve) (f : ℕ) where
+  abbrev greatest : ℕ
+  greatest = nearest (f * (1000000 * tableSum c)) (10 ^ 16)
+
+  millilux-most : (a s : ℕ) (xs : List ℕ) → lightCheck a s xs ≡ Fine → millilux c f a s xs ≤ greatest
+  millilux-most a s xs fine =
+      rw (column-total c) at (no-more (weightOf c) f (10 ^ 16) 1000000 s (on-grid a s xs fine .step-low) a xs (within a s xs fine))
+
+  millilux-full : (s : ℕ) → isStep s ≡ true → millilux c f 360 s (full 1000000 s) ≡ greatest
+  millilux-full s e = rw (column-total c) at (at-limit (weightOf c) f (10 ^ 16) 1000000 s (step-some s e) (light-sum (weightOf c) s e))
+
+-- one value, or three, each at most another
+one : {n m : ℕ} → n ≤ m → (i : ℕ) → getD (n ∷ []) i 0 ≤ getD (m ∷ []) i 0
+one h zero = h
+one h (suc i) = zero-le
+
+pub three : {x y z u v w : ℕ} → x ≤ u → y ≤ v → z ≤ w → (i : ℕ) → getD (x ∷ y ∷ z ∷ []) i 0 ≤ getD (u ∷ v ∷ w ∷ []) i 0
+three p q r zero = p
+three p q r (suc zero) = q
+three p q r (suc (suc i)) = one r i
+
+pub illuminance-range : (c : Curve) (f : ℕ) → Greatest (λ a s xs. saidReading (illuminanceOf c f a s xs)) (greatest c f ∷ [])
+unfolding illuminanceOf
+illuminance-range c f = record {
+  is-given = λ a s xs fine. rw fine;
+  at-most = λ a s xs fine. rw fine (one (millilux-most c f a s xs fine));
+  attained = λ s e. rw (light-accepted s e, millilux-full c f s e);
+}
+
+pub xyz-range :
+    (o : ℕ) → isObserver o ≡ true →
+    let f : ℕ = ofObserver o 683 684 in
+    Greatest (λ a s xs. saidXyz (xyzOf o a s xs)) (greatest (curvesOf o .x) f ∷ greatest (curvesOf o .y) f ∷ greatest (curvesOf o .z) f ∷ [])
+unfolding xyzOf
+xyz-range o t =
+    let f : ℕ = ofObserver o 683 684 in
+    let x = curvesOf o .x in
+    let y = curvesOf o .y in
+    let z = curvesOf o .z in
+    record {
+      is-given = λ a s xs fine. rw (t, fine);
+      at-most = λ a s xs fine.
+          rw (t, fine)
+          (three (millilux-most x f a s xs fine) (millilux-most y f a s xs fine) (millilux-most z f a s xs fine));
+      attained = λ s e. rw (t, light-accepted s e, millilux-full x f s e, millilux-full y f s e, millilux-full z f s e);
+    }
+
+-- s is a factor of the whole
+factor : (f s m n : ℕ) → f * (s * m + s * n) ≡ s * (f * (m + n))
+factor f s m n = rw (sym (mul-add s m n)) (mul-left-comm f s (m + n))
+
+module _ (k : ℕ) (few : k ≤ 1000) where
+  -- the two parts of a light at the limit, over s
+  abbrev day : ℕ
+  day = k * (1000000 * tableSum YBar)
+
+  abbrev night : ℕ
+  night = (1000 - k) * (1000000 * tableSum VPrime)
+
+  abbrev bracket : ℕ
+  bracket = 1000 * k + 402 * (1000 - k)
+
+  mesopic-most : (a s : ℕ) (xs : List ℕ) → lightCheck a s xs ≡ Fine → nearest (mesopicSum k a s xs) (mesopicDivisor k s) ≤ mesopicGreatest k
+  mesopic-most a s xs fine =
+      let low = on-grid a s xs fine .step-low in
+      let most = weighed-most a s xs low (within a s xs fine) in
+      let by-day = rw (mul-left-comm k s (1000000 * tableSum YBar)) at (mul-le-mul-left k (most YBar)) in
+      let by-night = rw (mul-left-comm (1000 - k) s (1000000 * tableSum VPrime)) at (mul-le-mul-left (1000 - k) (most VPrime)) in
+      let all = rw (factor 683000 s day night) at (mul-le-mul-left 683000 (add-le-add by-day by-night)) in
+      rw (mul-assoc s (10 ^ 16) bracket) (nearest-scaled s (mesopicSum k a s xs) (683000 * (day + night)) (10 ^ 16 * bracket) low all)
+
+  mesopic-full : (s : ℕ) → isStep s ≡ true → nearest (mesopicSum k 360 s (full 1000000 s)) (mesopicDivisor k s) ≡ mesopicGreatest k
+  mesopic-full s e =
+      rw (
+        light-sum (weightOf YBar) s e,
+        light-sum (weightOf VPrime) s e,
+        column-total YBar,
+        column-total VPrime,
+        mul-left-comm k s (1000000 * tableSum YBar),
+        mul-left-comm (1000 - k) s (1000000 * tableSum VPrime),
+        factor 683000 s day night,
+        mul-assoc s (10 ^ 16) bracket,
+      )
+      (nearest-cancel s (683000 * (day + night)) (10 ^ 16 * bracket) (step-some s e))
+
+  pub mesopic-range : Greatest (λ a s xs. saidReading (mesopicOf k a s xs)) (mesopicGreatest k ∷ [])
+  unfolding mesopicOf
+  mesopic-range =
+      let t = le-leb k 1000 few in
+      record {
+        is-given = λ a s xs fine. rw (t, fine);
+        at-most = λ a s xs fine. rw (t, fine) (one (mesopic-most a s xs fine));
+        attained = λ s e. rw (t, light-accepted s e, mesopic-full s e);
+      }
+
+  pub mesopic-any : mesopicGreatest k ≤ 164924650
+  mesopic-any = let less = nearest-lt (683000 * (day + night)) (10 ^ 16 * bracket) (omega arith) 164924651 .1 (omega arith) in omega arith
+
+module _ (o : ℕ) (t : isObserver o ≡ true) where
+  pub xy-range : UnlessDark (λ a s xs. saidXy (xyOf o a s xs))
+  unfolding xyOf
+  xy-range a s xs fine light = rw (t, fine, xy-given _ _ _ (xy-lit _ _ _ (rw (t, fine) at light)))
+
+  pub chart-range : UnlessDark (λ a s xs. saidChart (chartOf o a s xs))
+  unfolding chartOf
+  chart-range a s xs fine light =
+      let same = chart-number (xSum o a s xs) (ySum o a s xs) (zSum o a s xs) in
+      rw (t, fine, same, xy-given _ _ _ (xy-lit _ _ _ (rw (t, fine, same) at light)))
+
+pub figures-range : (a s : ℕ) (xs : List ℕ) → lightCheck a s xs ≡ Fine → saidFigures (figuresOf a s xs) .number ≡ 0
+unfolding figuresOf
+figures-range a s xs fine = rw fine

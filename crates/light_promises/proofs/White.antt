@@ -1,0 +1,99 @@
+-- An accepted panel's X, Y, Z are given; none is above that of a full white panel, and they keep to the order of the reflectances.
+use mathlib.Core.Path.{_≡_, refl, sym}
+use mathlib.Core.Bool.{Bool, true, false}
+use mathlib.Core.List.{List, [], _∷_}
+use Prim.Native.Nat.{ℕ, _*_, _≤_}
+use lib.Dec.{eqb}
+use lib.ListN.{length, getD}
+use Rattle.grid.specs.declared.Check.the-variants.{Fine}
+use Rattle.grid.specs.Check.{isObserver, isStep}
+use Rattle.grid.specs.Said.{value, given}
+use Rattle.mixing.specs.Nearest.{nearest}
+use Rattle.mixing.specs.Mixture.{Below, Linear}
+use Rattle.mixing.proofs.Mixture.{linear-times}
+use Rattle.tables.specs.declared.Curve.{Curve}
+use Rattle.tables.specs.Curves.{litBy}
+use Rattle.tables.specs.Columns.{litSum}
+use Rattle.tables.proofs.Lit.{lit-sum}
+use Rattle.spectrum.specs.Line.{W}
+use Rattle.spectrum.proofs.Measured.{W-linear}
+use Rattle.curves.specs.Observer.{curvesOf}
+use Rattle.answers.proofs.Mixed.{order as in-order}
+use Rattle.panel.specs.Panel.{isIlluminant, illuminantOf, settingCheck, panelCheck, whiteSum, panelXyzOf}
+use Rattle.panel.proofs.Accepted.{on-grid, within}
+use Rattle.panel.proofs.Sized.{divisor-some}
+use Rattle.light_promises.specs.Panels.{saidPanelXyz, fullWhite, whiteXyz}
+use Rattle.light_promises.proofs.Range.{three}
+use Rattle.light_promises.proofs.Full.{step-some, panel-accepted, panel-sum, at-limit, no-more}
+
+pub is-given : (o i a s : ℕ) (rs : List ℕ) → panelCheck o i a s rs ≡ Fine → saidPanelXyz o i a s rs .number ≡ 0
+unfolding panelXyzOf
+is-given o i a s rs fine = rw fine
+
+module _ (o i : ℕ) where
+  -- of a curve's sum under the illuminant, at the limit everywhere
+  abbrev greatest : Curve → ℕ
+  greatest c = nearest (10 * (10000 * litSum (illuminantOf i) c)) (whiteSum o i)
+
+  white-xyz : greatest (curvesOf o .x) ∷ greatest (curvesOf o .y) ∷ greatest (curvesOf o .z) ∷ [] ≡ whiteXyz o i
+  unfolding whiteSum nearest
+  white-xyz = rw (lit-sum (illuminantOf i) (curvesOf o .y)) (computed (eqb o 10) (eqb i 2) refl refl)
+    where
+      sum : Curve → ℕ
+      sum c = litSum (illuminantOf i) c
+
+      computed :
+          (ten d65 : Bool) → eqb o 10 ≡ ten → eqb i 2 ≡ d65 →
+          nearest (10 * (10000 * sum (curvesOf o .x))) (sum (curvesOf o .y))
+          ∷ nearest (10 * (10000 * sum (curvesOf o .y))) (sum (curvesOf o .y))
+          ∷ nearest (10 * (10000 * sum (curvesOf o .z))) (sum (curvesOf o .y))
+          ∷ []
+          ≡ whiteXyz o i
+      computed true true p q = rw (p, q)
+      computed true false p q = rw (p, q)
+      computed false true p q = rw (p, q)
+      computed false false p q = rw (p, q)
+
+  xyz-most :
+      (a s : ℕ) (rs : List ℕ) → panelCheck o i a s rs ≡ Fine → (c : Curve) →
+      nearest (10 * W (litBy (illuminantOf i) c) a s rs) (s * whiteSum o i) ≤ greatest c
+  xyz-most a s rs fine c =
+      rw (lit-sum (illuminantOf i) c) at
+      (no-more (litBy (illuminantOf i) c) 10 (whiteSum o i) 10000 s (on-grid o i a s rs fine .step-low) a rs (within o i a s rs fine))
+
+  pub at-most : (a s : ℕ) (rs : List ℕ) → panelCheck o i a s rs ≡ Fine → (k : ℕ) → value (saidPanelXyz o i a s rs) k ≤ getD (whiteXyz o i) k 0
+  unfolding panelXyzOf
+  at-most a s rs fine =
+      let most = xyz-most a s rs fine in
+      rw (fine, sym white-xyz) (three (most (curvesOf o .x)) (most (curvesOf o .y)) (most (curvesOf o .z)))
+
+  xyz-full :
+      (s : ℕ) → isStep s ≡ true → (c : Curve) →
+      nearest (10 * W (litBy (illuminantOf i) c) 360 s (fullWhite s)) (s * whiteSum o i) ≡ greatest c
+  xyz-full s e c =
+      rw (lit-sum (illuminantOf i) c) at
+      (at-limit (litBy (illuminantOf i) c) 10 (whiteSum o i) 10000 s (step-some s e) (panel-sum (litBy (illuminantOf i) c) s e))
+
+  pub white :
+      (s : ℕ) → isObserver o ≡ true → isIlluminant i ≡ true → isStep s ≡ true →
+      saidPanelXyz o i 360 s (fullWhite s) ≡ given (whiteXyz o i) []
+  unfolding panelXyzOf panelCheck settingCheck
+  white s p q r =
+      let fine = panel-accepted s r in
+      let is = xyz-full s r in
+      rw (p, q, fine, is (curvesOf o .x), is (curvesOf o .y), is (curvesOf o .z), white-xyz)
+
+module _ (o i a s n : ℕ) where
+  ten-linear : (c : Curve) → Linear n (λ rs. 10 * W (litBy (illuminantOf i) c) a s rs)
+  ten-linear c = linear-times n 10 (λ rs. W (litBy (illuminantOf i) c) a s rs) (W-linear n (litBy (illuminantOf i) c) a s)
+
+pub order :
+    (o i a s : ℕ) (rs qs : List ℕ) → panelCheck o i a s rs ≡ Fine → panelCheck o i a s qs ≡ Fine → length rs ≡ length qs →
+    Below rs qs → (k : ℕ) → value (saidPanelXyz o i a s rs) k ≤ value (saidPanelXyz o i a s qs) k
+unfolding panelXyzOf
+order o i a s rs qs p q l b =
+    let n = length rs in
+    let linear = ten-linear o i a s n in
+    rw (p, q)
+    (in-order n (s * whiteSum o i) (divisor-some o i a s rs p) rs qs refl (sym l) (_ ∷ _ ∷ _ ∷ [])
+    (linear (curvesOf o .x), (linear (curvesOf o .y), (linear (curvesOf o .z), tt))) b)

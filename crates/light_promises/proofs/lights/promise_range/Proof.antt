@@ -1,0 +1,28 @@
+-- The sums of a light at the limit are the tables' sums, from which each number is computed.
+use mathlib.Core.Path.{refl}
+use Rattle.mixing.specs.Nearest.{nearest}
+use Rattle.tables.specs.declared.Curve.the-variants.{YBar, YBar10, VPrime}
+use Rattle.spectrum.proofs.Light.{W-bound}
+use Rattle.light_promises.proofs.Range.{illuminance-range, mesopic-range, mesopic-any, xyz-range, xy-range, chart-range, figures-range}
+use Rattle.light_promises.proofs.lights.promise_range.Statement.{statement}
+use Rattle.light_promises.proofs.lights.promise_range.Tie as tie
+
+returns : tie.Need-returns
+unfolding nearest
+returns c =
+    record {
+      law = W-bound;
+      photopic = illuminance-range YBar 683;
+      scotopic = illuminance-range VPrime 1700;
+      photopic-10 = illuminance-range YBar10 684;
+      mesopic = mesopic-range;
+      mesopic-any = mesopic-any;
+      xyz = xyz-range 2 refl;
+      xyz-10 = xyz-range 10 refl;
+      xy = xy-range;
+      chart = chart-range;
+      figures = figures-range;
+    }
+
+pub promise-range-spec : {M : Type 1} → statement M
+promise-range-spec = tie.close (tie.spec returns)

@@ -1,0 +1,56 @@
+-- What is promised of the range: an accepted light has its readings, each at most so much, and a light at the limit has that much.
+use mathlib.Core.Path.{_≡_}
+use mathlib.Core.Bool.{true}
+use mathlib.Core.List.{List, [], _∷_}
+use Prim.Native.Nat.{ℕ, _+_, _*_, _-_, _/_, _^_, _≤_, _<_}
+use lib.ListN.{getD, replicate}
+use Rattle.grid.specs.declared.Check.the-variants.{Fine}
+use Rattle.grid.specs.Check.{Within, isObserver, isStep, lightCheck}
+use Rattle.grid.specs.Said.{Said, value, given}
+use Rattle.mixing.specs.Nearest.{nearest}
+use Rattle.mixing.specs.Sum.{total}
+use Rattle.tables.specs.declared.Curve.the-variants.{YBar, VPrime}
+use Rattle.tables.specs.Columns.{tableSum}
+use Rattle.spectrum.specs.Line.{W}
+use Rattle.answers.specs.Said.{saidReading, saidXyz, saidXy, saidChart}
+use Rattle.readings.specs.Readings.{photopicOf, scotopicOf, photopic10Of, mesopicOf, xyzOf, xyOf, chartOf, figuresOf}
+use Rattle.readings.specs.Figures.{saidFigures}
+use Rattle.light_promises.specs.Lights.{Answer, IsDark}
+
+-- the limit at each step from 360 to 830
+abbrev pub full : ℕ → ℕ → List ℕ
+full limit s = replicate (470 / s + 1) limit
+
+-- every accepted light has this answer, none of its values is above these, and a light of 1,000,000 at every step has these
+pub record Greatest (answer : Answer) (values : List ℕ) : Type 0 where
+  pub is-given : (a s : ℕ) (xs : List ℕ) → lightCheck a s xs ≡ Fine → answer a s xs .number ≡ 0
+  pub at-most : (a s : ℕ) (xs : List ℕ) → lightCheck a s xs ≡ Fine → (i : ℕ) → value (answer a s xs) i ≤ getD values i 0
+  pub attained : (s : ℕ) → isStep s ≡ true → answer 360 s (full 1000000 s) ≡ given values []
+
+-- 683000 (k · W(V) + (1000 - k) · W(V′)) of that light, over what it is divided by; s cancels
+abbrev pub mesopicGreatest : ℕ → ℕ
+mesopicGreatest k =
+    nearest (683000 * (k * (1000000 * tableSum YBar) + (1000 - k) * (1000000 * tableSum VPrime)))
+    (10 ^ 16 * (1000 * k + 402 * (1000 - k)))
+
+-- an accepted light has this answer unless it is dark
+abbrev pub UnlessDark : Answer → Type 0
+UnlessDark answer =
+    (a s : ℕ) (xs : List ℕ) → lightCheck a s xs ≡ Fine → (IsDark (answer a s xs) → ⊥) → answer a s xs .number ≡ 0
+
+pub record Range : Type 0 where
+  -- for any weights and any row within a limit, W is at most s times the limit times the sum of the weights
+  pub law :
+      (v : ℕ → ℕ) (a s limit : ℕ) (xs : List ℕ) → 0 < s → Within limit xs → W v a s xs ≤ s * limit * total 471 v
+  pub photopic : Greatest (λ a s xs. saidReading (photopicOf a s xs)) (72983274 ∷ [])
+  pub scotopic : Greatest (λ a s xs. saidReading (scotopicOf a s xs)) (165021238 ∷ [])
+  pub photopic-10 : Greatest (λ a s xs. saidReading (photopic10Of a s xs)) (79796724 ∷ [])
+  pub mesopic : (k : ℕ) → k ≤ 1000 → Greatest (λ a s xs. saidReading (mesopicOf k a s xs)) (mesopicGreatest k ∷ [])
+  -- which is the most at k = 0
+  pub mesopic-any : (k : ℕ) → k ≤ 1000 → mesopicGreatest k ≤ 164924650
+  pub xyz : Greatest (λ a s xs. saidXyz (xyzOf 2 a s xs)) (72989116 ∷ 72983274 ∷ 73007408 ∷ [])
+  pub xyz-10 : Greatest (λ a s xs. saidXyz (xyzOf 10 a s xs)) (79787587 ∷ 79796724 ∷ 79805003 ∷ [])
+  pub xy : (o : ℕ) → isObserver o ≡ true → UnlessDark (λ a s xs. saidXy (xyOf o a s xs))
+  pub chart : (o : ℕ) → isObserver o ≡ true → UnlessDark (λ a s xs. saidChart (chartOf o a s xs))
+  -- the figures in one call, dark or not
+  pub figures : (a s : ℕ) (xs : List ℕ) → lightCheck a s xs ≡ Fine → saidFigures (figuresOf a s xs) .number ≡ 0
