@@ -21,16 +21,20 @@ module _ (x y z : ℕ) where
       let some = eqb-false (x + y + z) 0 (not-eq-not {a = eqb (x + y + z) 0} {b = false} .0 (λ p. light (rw p))) in
       omega arith
 
-  -- and dark ones have none
-  pub xy-dark : saidXy (xyFrom x y z) .number ≡ DARK → x + y + z ≡ 0
-  unfolding xyFrom
-  xy-dark e = eqb-true (x + y + z) 0 (not-eq-not {a = eqb (x + y + z) 0} {b = true} .0 (λ p. let h = rw p at e in omega arith))
-
   pub xy-given :
       0 < x + y + z →
       xyFrom x y z ≡ XyAnswer.Value (record { x = nearest (100000 * x) (x + y + z); y = nearest (100000 * y) (x + y + z) })
   unfolding xyFrom
   xy-given h = rw (ne-eqb (x + y + z) 0 (λ e. omega arith))
+
+  -- so they are given
+  pub xy-unless-dark : (saidXy (xyFrom x y z) .number ≡ DARK → ⊥) → saidXy (xyFrom x y z) .number ≡ 0
+  xy-unless-dark light = rw (xy-given (xy-lit light))
+
+  -- and dark ones have none
+  pub xy-dark : saidXy (xyFrom x y z) .number ≡ DARK → x + y + z ≡ 0
+  unfolding xyFrom
+  xy-dark e = eqb-true (x + y + z) 0 (not-eq-not {a = eqb (x + y + z) 0} {b = true} .0 (λ p. let h = rw p at e in omega arith))
 
   -- the chart is dark where they are
   pub chart-number : saidOnChart (onChart (xyFrom x y z)) .number ≡ saidXy (xyFrom x y z) .number

@@ -17,13 +17,14 @@ use Rattle.tables.specs.declared.Curve.the-variants.{YBar, VPrime}
 use Rattle.tables.specs.Curves.{weightOf}
 use Rattle.tables.specs.Columns.{tableSum}
 use Rattle.tables.proofs.Columns.{column-total}
-use Rattle.answers.specs.Said.{saidReading, saidXyz, saidXy, saidChart}
-use Rattle.answers.proofs.Values.{xy-lit, xy-given, chart-number}
+use Rattle.answers.specs.Worked.{xyFrom, onChart}
+use Rattle.answers.specs.Said.{saidReading, saidXyz, saidXy, saidOnChart, saidChart}
+use Rattle.answers.proofs.Values.{xy-unless-dark, chart-number}
 use Rattle.curves.specs.Observer.{ofObserver, curvesOf}
-use Rattle.readings.specs.Readings.{millilux, illuminanceOf, mesopicOf, mesopicSum, mesopicDivisor, xSum, ySum, zSum, xyzOf, xyOf, chartOf, figuresOf}
+use Rattle.readings.specs.Readings.{millilux, illuminanceOf, mesopicOf, mesopicSum, mesopicDivisor, xyzOf, xyOf, chartOf, figuresOf}
 use Rattle.readings.specs.Figures.{saidFigures}
 use Rattle.readings.proofs.Small.{weighed-most}
-use Rattle.light_promises.specs.Range.{full, Greatest, mesopicGreatest, UnlessDark}
+use Rattle.light_promises.specs.Range.{full, Greatest, mesopicGreatest, GivenUnlessDark}
 use Rattle.light_promises.proofs.Full.{step-some, light-accepted, light-sum, at-limit, no-more}
 
 module _ (c : Curve) (f : ℕ) where
@@ -124,16 +125,15 @@ module _ (k : ℕ) (few : k ≤ 1000) where
   pub mesopic-any : mesopicGreatest k ≤ 164924650
   mesopic-any = let less = nearest-lt (683000 * (day + night)) (10 ^ 16 * bracket) (omega arith) 164924651 .1 (omega arith) in omega arith
 
-module _ (o : ℕ) (t : isObserver o ≡ true) where
-  pub xy-range : UnlessDark (λ a s xs. saidXy (xyOf o a s xs))
-  unfolding xyOf
-  xy-range a s xs fine light = rw (t, fine, xy-given _ _ _ (xy-lit _ _ _ (rw (t, fine) at light)))
+-- x and y, and the chart's point, which is dark where they are
+pub lit : (x y z : ℕ) → GivenUnlessDark (saidXy (xyFrom x y z)) × GivenUnlessDark (saidOnChart (onChart (xyFrom x y z)))
+lit x y z = (xy-unless-dark x y z, rw (chart-number x y z) (xy-unless-dark x y z))
 
-  pub chart-range : UnlessDark (λ a s xs. saidChart (chartOf o a s xs))
-  unfolding chartOf
-  chart-range a s xs fine light =
-      let same = chart-number (xSum o a s xs) (ySum o a s xs) (zSum o a s xs) in
-      rw (t, fine, same, xy-given _ _ _ (xy-lit _ _ _ (rw (t, fine, same) at light)))
+pub xy-range :
+    (o a s : ℕ) (xs : List ℕ) → isObserver o ≡ true → lightCheck a s xs ≡ Fine →
+    GivenUnlessDark (saidXy (xyOf o a s xs)) × GivenUnlessDark (saidChart (chartOf o a s xs))
+unfolding xyOf chartOf
+xy-range o a s xs t fine = rw (t, fine) (lit _ _ _)
 
 pub figures-range : (a s : ℕ) (xs : List ℕ) → lightCheck a s xs ≡ Fine → saidFigures (figuresOf a s xs) .number ≡ 0
 unfolding figuresOf

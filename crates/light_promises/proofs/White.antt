@@ -18,17 +18,30 @@ use Rattle.tables.proofs.Lit.{lit-sum}
 use Rattle.spectrum.specs.Line.{W}
 use Rattle.spectrum.proofs.Measured.{W-linear}
 use Rattle.curves.specs.Observer.{curvesOf}
+use Rattle.answers.specs.Said.{saidXy, saidChart}
 use Rattle.answers.proofs.Mixed.{order as in-order}
-use Rattle.panel.specs.Panel.{isIlluminant, illuminantOf, settingCheck, panelCheck, whiteSum, panelXyzOf}
+use Rattle.panel.specs.Panel.{isIlluminant, illuminantOf, settingCheck, panelCheck, whiteSum, panelXyzOf, panelXyOf, panelChartOf}
+use Rattle.panel.specs.Figures.{panelFiguresOf, saidPanelFigures}
 use Rattle.panel.proofs.Accepted.{on-grid, within}
 use Rattle.panel.proofs.Sized.{divisor-some}
+use Rattle.light_promises.specs.Range.{GivenUnlessDark}
 use Rattle.light_promises.specs.Panels.{saidPanelXyz, fullWhite, whiteXyz}
-use Rattle.light_promises.proofs.Range.{three}
+use Rattle.light_promises.proofs.Range.{lit, three}
 use Rattle.light_promises.proofs.Full.{step-some, panel-accepted, panel-sum, at-limit, no-more}
 
 pub is-given : (o i a s : ℕ) (rs : List ℕ) → panelCheck o i a s rs ≡ Fine → saidPanelXyz o i a s rs .number ≡ 0
 unfolding panelXyzOf
 is-given o i a s rs fine = rw fine
+
+pub xy-given :
+    (o i a s : ℕ) (rs : List ℕ) → panelCheck o i a s rs ≡ Fine →
+    GivenUnlessDark (saidXy (panelXyOf o i a s rs)) × GivenUnlessDark (saidChart (panelChartOf o i a s rs))
+unfolding panelXyOf panelChartOf
+xy-given o i a s rs fine = rw fine (lit _ _ _)
+
+pub figures-given : (o i a s : ℕ) (rs : List ℕ) → panelCheck o i a s rs ≡ Fine → saidPanelFigures (panelFiguresOf o i a s rs) .number ≡ 0
+unfolding panelFiguresOf
+figures-given o i a s rs fine = rw fine
 
 module _ (o i : ℕ) where
   -- of a curve's sum under the illuminant, at the limit everywhere

@@ -10,10 +10,11 @@ use Rattle.grid.specs.declared.Check.the-variants.{Fine}
 use Rattle.grid.specs.Check.{isObserver, isStep}
 use Rattle.mixing.specs.Mixture.{Below}
 use Rattle.grid.specs.Said.{Said, value, given}
-use Rattle.answers.specs.Said.{saidXyz}
+use Rattle.answers.specs.Said.{saidXyz, saidXy, saidChart}
 use Rattle.curves.specs.Observer.{ofObserver}
-use Rattle.panel.specs.Panel.{isIlluminant, panelCheck, panelXyzOf}
-use Rattle.light_promises.specs.Range.{full}
+use Rattle.panel.specs.Panel.{isIlluminant, panelCheck, panelXyzOf, panelXyOf, panelChartOf}
+use Rattle.panel.specs.Figures.{panelFiguresOf, saidPanelFigures}
+use Rattle.light_promises.specs.Range.{full, GivenUnlessDark}
 
 -- X, Y, Z as the rules' number and values
 abbrev pub saidPanelXyz : ℕ → ℕ → ℕ → ℕ → List ℕ → Said
@@ -39,6 +40,11 @@ pub record Panels : Type 0 where
   pub white :
       (o i s : ℕ) → isObserver o ≡ true → isIlluminant i ≡ true → isStep s ≡ true →
       saidPanelXyz o i 360 s (fullWhite s) ≡ given (whiteXyz o i) []
+  -- x, y and the chart's point of a panel that is accepted are given unless they are dark, and its figures in one call always
+  pub xy :
+      (o i a s : ℕ) (rs : List ℕ) → panelCheck o i a s rs ≡ Fine →
+      GivenUnlessDark (saidXy (panelXyOf o i a s rs)) × GivenUnlessDark (saidChart (panelChartOf o i a s rs))
+  pub figures : (o i a s : ℕ) (rs : List ℕ) → panelCheck o i a s rs ≡ Fine → saidPanelFigures (panelFiguresOf o i a s rs) .number ≡ 0
   -- reflectances place by place no higher give X, Y, Z no higher
   pub order :
       (o i a s : ℕ) (rs qs : List ℕ) → panelCheck o i a s rs ≡ Fine → panelCheck o i a s qs ≡ Fine → length rs ≡ length qs →

@@ -33,10 +33,9 @@ mesopicGreatest k =
     nearest (683000 * (k * (1000000 * tableSum YBar) + (1000 - k) * (1000000 * tableSum VPrime)))
     (10 ^ 16 * (1000 * k + 402 * (1000 - k)))
 
--- an accepted light has this answer unless it is dark
-abbrev pub UnlessDark : Answer → Type 0
-UnlessDark answer =
-    (a s : ℕ) (xs : List ℕ) → lightCheck a s xs ≡ Fine → (IsDark (answer a s xs) → ⊥) → answer a s xs .number ≡ 0
+-- given, unless it is refused as dark
+abbrev pub GivenUnlessDark : Said → Type 0
+GivenUnlessDark said = (IsDark said → ⊥) → said .number ≡ 0
 
 pub record Range : Type 0 where
   -- for any weights and any row within a limit, W is at most s times the limit times the sum of the weights
@@ -46,11 +45,12 @@ pub record Range : Type 0 where
   pub scotopic : Greatest (λ a s xs. saidReading (scotopicOf a s xs)) (165021238 ∷ [])
   pub photopic-10 : Greatest (λ a s xs. saidReading (photopic10Of a s xs)) (79796724 ∷ [])
   pub mesopic : (k : ℕ) → k ≤ 1000 → Greatest (λ a s xs. saidReading (mesopicOf k a s xs)) (mesopicGreatest k ∷ [])
-  -- which is the most at k = 0
+  -- of which the one at k = 0 is the greatest
   pub mesopic-any : (k : ℕ) → k ≤ 1000 → mesopicGreatest k ≤ 164924650
   pub xyz : Greatest (λ a s xs. saidXyz (xyzOf 2 a s xs)) (72989116 ∷ 72983274 ∷ 73007408 ∷ [])
   pub xyz-10 : Greatest (λ a s xs. saidXyz (xyzOf 10 a s xs)) (79787587 ∷ 79796724 ∷ 79805003 ∷ [])
-  pub xy : (o : ℕ) → isObserver o ≡ true → UnlessDark (λ a s xs. saidXy (xyOf o a s xs))
-  pub chart : (o : ℕ) → isObserver o ≡ true → UnlessDark (λ a s xs. saidChart (chartOf o a s xs))
+  pub xy :
+      (o a s : ℕ) (xs : List ℕ) → isObserver o ≡ true → lightCheck a s xs ≡ Fine →
+      GivenUnlessDark (saidXy (xyOf o a s xs)) × GivenUnlessDark (saidChart (chartOf o a s xs))
   -- the figures in one call, dark or not
   pub figures : (a s : ℕ) (xs : List ℕ) → lightCheck a s xs ≡ Fine → saidFigures (figuresOf a s xs) .number ≡ 0

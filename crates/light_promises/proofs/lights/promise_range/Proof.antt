@@ -3,7 +3,7 @@ use mathlib.Core.Path.{refl}
 use Rattle.mixing.specs.Nearest.{nearest}
 use Rattle.tables.specs.declared.Curve.the-variants.{YBar, YBar10, VPrime}
 use Rattle.spectrum.proofs.Light.{W-bound}
-use Rattle.light_promises.proofs.Range.{illuminance-range, mesopic-range, mesopic-any, xyz-range, xy-range, chart-range, figures-range}
+use Rattle.light_promises.proofs.Range.{illuminance-range, mesopic-range, mesopic-any, xyz-range, xy-range, figures-range}
 use Rattle.light_promises.proofs.lights.promise_range.Statement.{statement}
 use Rattle.light_promises.proofs.lights.promise_range.Tie as tie
 
@@ -20,7 +20,6 @@ returns c =
       xyz = xyz-range 2 refl;
       xyz-10 = xyz-range 10 refl;
       xy = xy-range;
-      chart = chart-range;
       figures = figures-range;
     }
 
