@@ -28,18 +28,18 @@ quotients [] d xs = []
 quotients (F ∷ Fs) d xs = nearest (F xs) d ∷ quotients Fs d xs
 
 module _ (n d : ℕ) (pos : 0 < d) (xs ys : List ℕ) (p : length xs ≡ n) (q : length ys ≡ n) where
-  pub unit :
+  pub each-unit :
       (Fs : List (List ℕ → ℕ)) → AllLinear n Fs → (i : ℕ) →
       Differ 1 (getD (quotients Fs d (mix xs ys)) i 0) (getD (quotients Fs d xs) i 0 + getD (quotients Fs d ys) i 0)
-  unit [] l i = record { above = omega arith; below = omega arith }
-  unit (F ∷ Fs) l zero = illuminance n d F (l .0) pos .two xs ys p q
-  unit (F ∷ Fs) l (suc i) = unit Fs (l .1) i
+  each-unit [] l i = record { above = omega arith; below = omega arith }
+  each-unit (F ∷ Fs) l zero = illuminance n d F (l .0) pos .two xs ys p q
+  each-unit (F ∷ Fs) l (suc i) = each-unit Fs (l .1) i
 
-  pub order :
+  pub each-order :
       (Fs : List (List ℕ → ℕ)) → AllLinear n Fs → Below xs ys → (i : ℕ) → getD (quotients Fs d xs) i 0 ≤ getD (quotients Fs d ys) i 0
-  order [] l b i = zero-le
-  order (F ∷ Fs) l b zero = illuminance n d F (l .0) pos .order xs ys p q b
-  order (F ∷ Fs) l b (suc i) = order Fs (l .1) b i
+  each-order [] l b i = zero-le
+  each-order (F ∷ Fs) l b zero = illuminance n d F (l .0) pos .order xs ys p q b
+  each-order (F ∷ Fs) l b (suc i) = each-order Fs (l .1) b i
 
 module _
     (n : ℕ) (F G H : List ℕ → ℕ) (f : Linear n F) (g : Linear n G) (h : Linear n H) (xs ys : List ℕ) (p : length xs ≡ n)

@@ -1,13 +1,16 @@
--- Coordinates and the sums that they are worked from: where there is a divisor, and where there is none.
+-- Coordinates and the sums that they are worked from: where there is a divisor, and where there is none, and how large they are.
 use mathlib.Core.Path.{_≡_, refl}
 use mathlib.Core.Bool.{Bool, true, false, cond, not-eq-not}
-use Prim.Native.Nat.{ℕ, _+_, _*_, _<_}
+use Prim.Native.Nat.{ℕ, zero, suc, _+_, _*_, _≤_, _<_, zero-le}
+use native.Mathlib.Nat.{mul-le-mul-left}
 use native.Mathlib.Omega.{arith}
 use borrow.Author.Tests.{eqb-true, eqb-false, ne-eqb}
 use lib.Dec.{eqb}
 use Rattle.grid.specs.Refusals.{DARK}
 use Rattle.grid.specs.Check.{refusal}
+use Rattle.grid.specs.Said.{value}
 use Rattle.mixing.specs.Nearest.{nearest}
+use Rattle.mixing.proofs.Nearest.{nearest-bound}
 use Rattle.answers.specs.declared.Xy.{Xy}
 use Rattle.answers.specs.declared.XyAnswer.{XyAnswer}
 use Rattle.answers.specs.Worked.{xyFrom, onChart}
@@ -44,3 +47,17 @@ module _ (x y z : ℕ) where
       go : (b : Bool) (v : Xy) → let xy = cond b (XyAnswer.Refused (refusal DARK 0)) (XyAnswer.Value v) in saidOnChart (onChart xy) .number ≡ saidXy xy .number
       go true v = refl
       go false v = refl
+
+  -- each is at most 1
+  pub xy-most : (i : ℕ) → value (saidXy (xyFrom x y z)) i ≤ 100000
+  unfolding xyFrom
+  xy-most = go (eqb (x + y + z) 0)
+    where
+      go :
+          (b : Bool) (i : ℕ) →
+          let v : Xy = record { x = nearest (100000 * x) (x + y + z); y = nearest (100000 * y) (x + y + z) } in
+          value (saidXy (cond b (XyAnswer.Refused (refusal DARK 0)) (XyAnswer.Value v))) i ≤ 100000
+      go true i = zero-le
+      go false zero = nearest-bound 100000 (100000 * x) (x + y + z) (mul-le-mul-left 100000 (omega arith))
+      go false (suc zero) = nearest-bound 100000 (100000 * y) (x + y + z) (mul-le-mul-left 100000 (omega arith))
+      go false (suc (suc i)) = zero-le

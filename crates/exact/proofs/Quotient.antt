@@ -14,7 +14,7 @@ leading p a b n d fits holds = omega (arith, mul-le-mul-left (a / b) holds, mul-
 pub found : (n d q rest : ℕ) → q * d + rest ≡ n → rest < d → n / d ≡ q
 found n d q rest e small = div-eq-of-lt-le d (omega arith) (omega arith)
 
--- n · f with half of d added is below 2^32 of d's, where its nearest is below 2^32
+-- with half of d added n is below 2^32 of d's, where the nearest of n / d is below 2^32
 pub under : (n d : ℕ) → Fits n d → n + d / 2 < d * 4294967296
 under n d fits =
     let most = fits .most in

@@ -22,8 +22,9 @@ pub fn joined(high: u64, low: u64) -> Short
     ensures { λ r. ⌜ short r ≡ high * 2 ^ 32 + low ⌝ }
 {
     let middle = high % 4294967296 + low / 4294967296;
+    let top = high / 4294967296 + middle / 4294967296;
     Short {
-        high: (high / 4294967296 + middle / 4294967296) as u32,
+        high: top as u32,
         middle: (middle % 4294967296) as u32,
         low: (low % 4294967296) as u32,
     }
@@ -55,8 +56,9 @@ fn narrow(a: Long) -> Short
     requires { ⌜ long a < 2 ^ 96 ⌝ }
     ensures { λ r. ⌜ short r ≡ long a ⌝ }
 {
+    let high = a.high as u32;
     Short {
-        high: a.high as u32,
+        high,
         middle: (a.low / 4294967296) as u32,
         low: (a.low % 4294967296) as u32,
     }

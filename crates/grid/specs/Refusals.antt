@@ -1,4 +1,4 @@
--- The numbers of refusals, by the rules' names.
+-- The numbers of refusals, by the rules' names. 15 is not used: no reading can pass 32 bits.
 use Prim.Native.Nat.{ℕ}
 
 abbrev pub STEP : ℕ

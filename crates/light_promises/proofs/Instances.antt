@@ -19,9 +19,9 @@ use Rattle.tables.specs.Curves.{weightOf}
 use Rattle.spectrum.proofs.Measured.{W-linear}
 use Rattle.grid.proofs.Light.{grid-fine, on-grid}
 use Rattle.answers.specs.Said.{saidReading, saidXyz, saidXy}
-use Rattle.curves.specs.Observer.{ofObserver, curvesOf}
-use Rattle.answers.proofs.Mixed.{AllLinear, unit, order, xy-between, xy-one-dark}
-use Rattle.readings.specs.Readings.{weighed, illuminanceOf, mesopicOf, mesopicSum, mesopicDivisor, xyzOf, xyOf}
+use Rattle.curves.specs.Observer.{curvesOf}
+use Rattle.answers.proofs.Mixed.{AllLinear, each-unit, each-order, xy-between, xy-one-dark}
+use Rattle.readings.specs.Readings.{weighed, efficacyOf, illuminanceOf, mesopicOf, mesopicSum, mesopicDivisor, xyzOf, xyOf}
 use Rattle.readings.proofs.Small.{mesopic-fits}
 use Rattle.light_promises.specs.Lights.{Mixable, OneUnit, InOrder, BothLit, OneDark}
 
@@ -45,22 +45,22 @@ curve-linear n c a s = W-linear n (weightOf c) a s
 scale-pos : (a s : ℕ) (xs : List ℕ) → lightCheck a s xs ≡ Fine → 0 < s * 10 ^ 16
 scale-pos a s xs fine = let h = on-grid a s xs fine .step-low in omega arith
 
-module _ (c : Curve) (efficacy : ℕ) where
-  efficacy-linear : (n a s : ℕ) → Linear n (λ xs. efficacy * weighed c a s xs)
-  efficacy-linear n a s = linear-times n efficacy (λ xs. weighed c a s xs) (curve-linear n c a s)
+module _ (c : Curve) where
+  efficacy-linear : (n a s : ℕ) → Linear n (λ xs. efficacyOf c * weighed c a s xs)
+  efficacy-linear n a s = linear-times n (efficacyOf c) (λ xs. weighed c a s xs) (curve-linear n c a s)
 
-  pub illuminance-unit : OneUnit (λ a s xs. saidReading (illuminanceOf c efficacy a s xs))
+  pub illuminance-unit : OneUnit (λ a s xs. saidReading (illuminanceOf c a s xs))
   unfolding illuminanceOf
   illuminance-unit a s xs ys m =
       rw (m .first, m .second, mixture-accepted a s xs ys m)
-      (unit (length xs) (s * 10 ^ 16) (scale-pos a s xs (m .first)) xs ys refl (sym (m .one-grid)) ((λ zs. efficacy * weighed c a s zs) ∷ [])
+      (each-unit (length xs) (s * 10 ^ 16) (scale-pos a s xs (m .first)) xs ys refl (sym (m .one-grid)) ((λ zs. efficacyOf c * weighed c a s zs) ∷ [])
       (efficacy-linear (length xs) a s, tt))
 
-  pub illuminance-order : InOrder (λ a s xs. saidReading (illuminanceOf c efficacy a s xs))
+  pub illuminance-order : InOrder (λ a s xs. saidReading (illuminanceOf c a s xs))
   unfolding illuminanceOf
   illuminance-order a s xs ys p q l b =
       rw (p, q)
-      (order (length xs) (s * 10 ^ 16) (scale-pos a s xs p) xs ys refl (sym l) ((λ zs. efficacy * weighed c a s zs) ∷ [])
+      (each-order (length xs) (s * 10 ^ 16) (scale-pos a s xs p) xs ys refl (sym l) ((λ zs. efficacyOf c * weighed c a s zs) ∷ [])
       (efficacy-linear (length xs) a s, tt) b)
 
 module _ (k : ℕ) (few : k ≤ 1000) where
@@ -75,44 +75,38 @@ module _ (k : ℕ) (few : k ≤ 1000) where
   unfolding mesopicOf
   mesopic-unit a s xs ys m =
       rw (le-leb k 1000 few, m .first, m .second, mixture-accepted a s xs ys m)
-      (unit (length xs) (mesopicDivisor k s) (mesopic-fits a s xs (m .first) k few .divisor) xs ys refl (sym (m .one-grid))
+      (each-unit (length xs) (mesopicDivisor k s) (mesopic-fits a s xs (m .first) k few .divisor) xs ys refl (sym (m .one-grid))
       ((λ zs. mesopicSum k a s zs) ∷ []) (mesopic-linear (length xs) a s, tt))
 
   pub mesopic-order : InOrder (λ a s xs. saidReading (mesopicOf k a s xs))
   unfolding mesopicOf
   mesopic-order a s xs ys p q l b =
       rw (le-leb k 1000 few, p, q)
-      (order (length xs) (mesopicDivisor k s) (mesopic-fits a s xs p k few .divisor) xs ys refl (sym l) ((λ zs. mesopicSum k a s zs) ∷ [])
+      (each-order (length xs) (mesopicDivisor k s) (mesopic-fits a s xs p k few .divisor) xs ys refl (sym l) ((λ zs. mesopicSum k a s zs) ∷ [])
       (mesopic-linear (length xs) a s, tt) b)
 
 module _ (o : ℕ) (t : isObserver o ≡ true) where
-  abbrev efficacy : ℕ
-  efficacy = ofObserver o 683 684
-
   abbrev colours : ℕ → ℕ → List (List ℕ → ℕ)
-  colours a s =
-      (λ zs. efficacy * weighed (curvesOf o .x) a s zs)
-      ∷ (λ zs. efficacy * weighed (curvesOf o .y) a s zs)
-      ∷ (λ zs. efficacy * weighed (curvesOf o .z) a s zs)
-      ∷ []
+  colours a s = by (curvesOf o .x) ∷ by (curvesOf o .y) ∷ by (curvesOf o .z) ∷ []
+    where
+      by : Curve → List ℕ → ℕ
+      by c zs = efficacyOf c * weighed c a s zs
 
   colours-linear : (n a s : ℕ) → AllLinear n (colours a s)
-  colours-linear n a s = (
-    efficacy-linear (curvesOf o .x) efficacy n a s,
-    (efficacy-linear (curvesOf o .y) efficacy n a s, (efficacy-linear (curvesOf o .z) efficacy n a s, tt)),
-  )
+  colours-linear n a s =
+      (efficacy-linear (curvesOf o .x) n a s, (efficacy-linear (curvesOf o .y) n a s, (efficacy-linear (curvesOf o .z) n a s, tt)))
 
   pub xyz-mixed : OneUnit (λ a s xs. saidXyz (xyzOf o a s xs))
   unfolding xyzOf
   xyz-mixed a s xs ys m =
       rw (t, m .first, m .second, mixture-accepted a s xs ys m)
-      (unit (length xs) (s * 10 ^ 16) (scale-pos a s xs (m .first)) xs ys refl (sym (m .one-grid)) (colours a s) (colours-linear (length xs) a s))
+      (each-unit (length xs) (s * 10 ^ 16) (scale-pos a s xs (m .first)) xs ys refl (sym (m .one-grid)) (colours a s) (colours-linear (length xs) a s))
 
   pub xyz-ordered : InOrder (λ a s xs. saidXyz (xyzOf o a s xs))
   unfolding xyzOf
   xyz-ordered a s xs ys p q l b =
       rw (t, p, q)
-      (order (length xs) (s * 10 ^ 16) (scale-pos a s xs p) xs ys refl (sym l) (colours a s) (colours-linear (length xs) a s) b)
+      (each-order (length xs) (s * 10 ^ 16) (scale-pos a s xs p) xs ys refl (sym l) (colours a s) (colours-linear (length xs) a s) b)
 
   pub between : BothLit (λ a s xs. saidXy (xyOf o a s xs))
   unfolding xyOf

@@ -1,5 +1,5 @@
 -- The greatest readings: no sum passes that of a light at the limit everywhere, whose readings are computed from the tables' sums.
-use mathlib.Core.Path.{_≡_, sym}
+use mathlib.Core.Path.{_≡_, refl, sym}
 use mathlib.Core.Bool.{true}
 use mathlib.Core.List.{List, [], _∷_}
 use Prim.Native.Nat.{ℕ, zero, suc, _+_, _*_, _-_, _^_, _≤_, zero-le}
@@ -19,24 +19,24 @@ use Rattle.tables.specs.Columns.{tableSum}
 use Rattle.tables.proofs.Columns.{column-total}
 use Rattle.answers.specs.Worked.{xyFrom, onChart}
 use Rattle.answers.specs.Said.{saidReading, saidXyz, saidXy, saidOnChart, saidChart}
-use Rattle.answers.proofs.Values.{xy-unless-dark, chart-number}
-use Rattle.curves.specs.Observer.{ofObserver, curvesOf}
-use Rattle.readings.specs.Readings.{millilux, illuminanceOf, mesopicOf, mesopicSum, mesopicDivisor, xyzOf, xyOf, chartOf, figuresOf}
+use Rattle.answers.proofs.Values.{xy-unless-dark, xy-most, chart-number}
+use Rattle.curves.specs.Observer.{curvesOf}
+use Rattle.readings.specs.Readings.{efficacyOf, millilux, illuminanceOf, mesopicOf, mesopicSum, mesopicDivisor, xyzOf, xyOf, chartOf, figuresOf}
 use Rattle.readings.specs.Figures.{saidFigures}
 use Rattle.readings.proofs.Small.{weighed-most}
-use Rattle.light_promises.specs.Range.{full, Greatest, mesopicGreatest, GivenUnlessDark}
+use Rattle.light_promises.specs.Range.{full, Greatest, mesopicGreatest, Coordinates}
 use Rattle.light_promises.proofs.Full.{step-some, light-accepted, light-sum, at-limit, no-more}
 
-module _ (c : Curve) (f : ℕ) where
+module _ (c : Curve) where
   abbrev greatest : ℕ
-  greatest = nearest (f * (1000000 * tableSum c)) (10 ^ 16)
+  greatest = nearest (efficacyOf c * (1000000 * tableSum c)) (10 ^ 16)
 
-  millilux-most : (a s : ℕ) (xs : List ℕ) → lightCheck a s xs ≡ Fine → millilux c f a s xs ≤ greatest
+  millilux-most : (a s : ℕ) (xs : List ℕ) → lightCheck a s xs ≡ Fine → millilux c a s xs ≤ greatest
   millilux-most a s xs fine =
-      rw (column-total c) at (no-more (weightOf c) f (10 ^ 16) 1000000 s (on-grid a s xs fine .step-low) a xs (within a s xs fine))
+      rw (column-total c) at (no-more (weightOf c) (efficacyOf c) (10 ^ 16) 1000000 s (on-grid a s xs fine .step-low) a xs (within a s xs fine))
 
-  millilux-full : (s : ℕ) → isStep s ≡ true → millilux c f 360 s (full 1000000 s) ≡ greatest
-  millilux-full s e = rw (column-total c) at (at-limit (weightOf c) f (10 ^ 16) 1000000 s (step-some s e) (light-sum (weightOf c) s e))
+  millilux-full : (s : ℕ) → isStep s ≡ true → millilux c 360 s (full 1000000 s) ≡ greatest
+  millilux-full s e = rw (column-total c) at (at-limit (weightOf c) (efficacyOf c) (10 ^ 16) 1000000 s (step-some s e) (light-sum (weightOf c) s e))
 
 -- one value, or three, each at most another
 one : {n m : ℕ} → n ≤ m → (i : ℕ) → getD (n ∷ []) i 0 ≤ getD (m ∷ []) i 0
@@ -48,37 +48,33 @@ three p q r zero = p
 three p q r (suc zero) = q
 three p q r (suc (suc i)) = one r i
 
-pub illuminance-range : (c : Curve) (f : ℕ) → Greatest (λ a s xs. saidReading (illuminanceOf c f a s xs)) (greatest c f ∷ [])
+pub illuminance-range : (c : Curve) → Greatest (λ a s xs. saidReading (illuminanceOf c a s xs)) (greatest c ∷ [])
 unfolding illuminanceOf
-illuminance-range c f = record {
+illuminance-range c = record {
   is-given = λ a s xs fine. rw fine;
-  at-most = λ a s xs fine. rw fine (one (millilux-most c f a s xs fine));
-  attained = λ s e. rw (light-accepted s e, millilux-full c f s e);
+  at-most = λ a s xs fine. rw fine (one (millilux-most c a s xs fine));
+  attained = λ s e. rw (light-accepted s e, millilux-full c s e);
 }
 
 pub xyz-range :
     (o : ℕ) → isObserver o ≡ true →
-    let f : ℕ = ofObserver o 683 684 in
-    Greatest (λ a s xs. saidXyz (xyzOf o a s xs)) (greatest (curvesOf o .x) f ∷ greatest (curvesOf o .y) f ∷ greatest (curvesOf o .z) f ∷ [])
+    Greatest (λ a s xs. saidXyz (xyzOf o a s xs)) (greatest (curvesOf o .x) ∷ greatest (curvesOf o .y) ∷ greatest (curvesOf o .z) ∷ [])
 unfolding xyzOf
 xyz-range o t =
-    let f : ℕ = ofObserver o 683 684 in
     let x = curvesOf o .x in
     let y = curvesOf o .y in
     let z = curvesOf o .z in
     record {
       is-given = λ a s xs fine. rw (t, fine);
-      at-most = λ a s xs fine.
-          rw (t, fine)
-          (three (millilux-most x f a s xs fine) (millilux-most y f a s xs fine) (millilux-most z f a s xs fine));
-      attained = λ s e. rw (t, light-accepted s e, millilux-full x f s e, millilux-full y f s e, millilux-full z f s e);
+      at-most = λ a s xs fine. rw (t, fine) (three (millilux-most x a s xs fine) (millilux-most y a s xs fine) (millilux-most z a s xs fine));
+      attained = λ s e. rw (t, light-accepted s e, millilux-full x s e, millilux-full y s e, millilux-full z s e);
     }
 
 -- s is a factor of the whole
 factor : (f s m n : ℕ) → f * (s * m + s * n) ≡ s * (f * (m + n))
 factor f s m n = rw (sym (mul-add s m n)) (mul-left-comm f s (m + n))
 
-module _ (k : ℕ) (few : k ≤ 1000) where
+module _ (k : ℕ) where
   -- the two parts of a light at the limit, over s
   abbrev day : ℕ
   day = k * (1000000 * tableSum YBar)
@@ -89,7 +85,10 @@ module _ (k : ℕ) (few : k ≤ 1000) where
   abbrev bracket : ℕ
   bracket = 1000 * k + 402 * (1000 - k)
 
-  mesopic-most : (a s : ℕ) (xs : List ℕ) → lightCheck a s xs ≡ Fine → nearest (mesopicSum k a s xs) (mesopicDivisor k s) ≤ mesopicGreatest k
+  abbrev greatestAt : ℕ
+  greatestAt = nearest (683000 * (day + night)) (10 ^ 16 * bracket)
+
+  mesopic-most : (a s : ℕ) (xs : List ℕ) → lightCheck a s xs ≡ Fine → nearest (mesopicSum k a s xs) (mesopicDivisor k s) ≤ greatestAt
   mesopic-most a s xs fine =
       let low = on-grid a s xs fine .step-low in
       let most = weighed-most a s xs low (within a s xs fine) in
@@ -98,7 +97,7 @@ module _ (k : ℕ) (few : k ≤ 1000) where
       let all = rw (factor 683000 s day night) at (mul-le-mul-left 683000 (add-le-add by-day by-night)) in
       rw (mul-assoc s (10 ^ 16) bracket) (nearest-scaled s (mesopicSum k a s xs) (683000 * (day + night)) (10 ^ 16 * bracket) low all)
 
-  mesopic-full : (s : ℕ) → isStep s ≡ true → nearest (mesopicSum k 360 s (full 1000000 s)) (mesopicDivisor k s) ≡ mesopicGreatest k
+  mesopic-full : (s : ℕ) → isStep s ≡ true → nearest (mesopicSum k 360 s (full 1000000 s)) (mesopicDivisor k s) ≡ greatestAt
   mesopic-full s e =
       rw (
         light-sum (weightOf YBar) s e,
@@ -112,28 +111,41 @@ module _ (k : ℕ) (few : k ≤ 1000) where
       )
       (nearest-cancel s (683000 * (day + night)) (10 ^ 16 * bracket) (step-some s e))
 
-  pub mesopic-range : Greatest (λ a s xs. saidReading (mesopicOf k a s xs)) (mesopicGreatest k ∷ [])
+  mesopic-is : mesopicGreatest k ≡ greatestAt
+  mesopic-is = mesopic-full 1 refl
+
+  pub mesopic-range : k ≤ 1000 → Greatest (λ a s xs. saidReading (mesopicOf k a s xs)) (mesopicGreatest k ∷ [])
   unfolding mesopicOf
-  mesopic-range =
+  mesopic-range few =
       let t = le-leb k 1000 few in
       record {
         is-given = λ a s xs fine. rw (t, fine);
-        at-most = λ a s xs fine. rw (t, fine) (one (mesopic-most a s xs fine));
-        attained = λ s e. rw (t, light-accepted s e, mesopic-full s e);
+        at-most = λ a s xs fine. rw (t, fine, mesopic-is) (one (mesopic-most a s xs fine));
+        attained = λ s e. rw (t, light-accepted s e, mesopic-is, mesopic-full s e);
       }
 
-  pub mesopic-any : mesopicGreatest k ≤ 164924650
-  mesopic-any = let less = nearest-lt (683000 * (day + night)) (10 ^ 16 * bracket) (omega arith) 164924651 .1 (omega arith) in omega arith
+pub mesopic-0 : mesopicGreatest 0 ≡ 164924650
+unfolding nearest
+mesopic-0 = mesopic-is 0
 
--- x and y, and the chart's point, which is dark where they are
-pub lit : (x y z : ℕ) → GivenUnlessDark (saidXy (xyFrom x y z)) × GivenUnlessDark (saidOnChart (onChart (xyFrom x y z)))
-lit x y z = (xy-unless-dark x y z, rw (chart-number x y z) (xy-unless-dark x y z))
+pub mesopic-any : (k : ℕ) → k ≤ 1000 → mesopicGreatest k ≤ mesopicGreatest 0
+mesopic-any k few =
+    let less = nearest-lt (683000 * (day k + night k)) (10 ^ 16 * bracket k) (omega arith) 164924651 .1 (omega arith) in
+    rw (mesopic-0, mesopic-is k) (omega arith)
+
+-- the chart's point is dark where x and y are
+pub coordinates : (x y z : ℕ) → Coordinates (saidXy (xyFrom x y z)) (saidOnChart (onChart (xyFrom x y z)))
+coordinates x y z = record {
+  xy-given = xy-unless-dark x y z;
+  at-most = xy-most x y z;
+  chart-given = rw (chart-number x y z) (xy-unless-dark x y z);
+}
 
 pub xy-range :
     (o a s : ℕ) (xs : List ℕ) → isObserver o ≡ true → lightCheck a s xs ≡ Fine →
-    GivenUnlessDark (saidXy (xyOf o a s xs)) × GivenUnlessDark (saidChart (chartOf o a s xs))
+    Coordinates (saidXy (xyOf o a s xs)) (saidChart (chartOf o a s xs))
 unfolding xyOf chartOf
-xy-range o a s xs t fine = rw (t, fine) (lit _ _ _)
+xy-range o a s xs t fine = rw (t, fine) (coordinates _ _ _)
 
 pub figures-range : (a s : ℕ) (xs : List ℕ) → lightCheck a s xs ≡ Fine → saidFigures (figuresOf a s xs) .number ≡ 0
 unfolding figuresOf

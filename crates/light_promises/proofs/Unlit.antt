@@ -23,9 +23,9 @@ use Rattle.answers.specs.declared.XyzAnswer.{XyzAnswer}
 use Rattle.answers.specs.declared.XyAnswer.{XyAnswer}
 use Rattle.answers.specs.declared.ChartAnswer.{ChartAnswer}
 use Rattle.answers.specs.Worked.{xyFrom, onChart}
-use Rattle.curves.specs.Observer.{ofObserver, curvesOf}
+use Rattle.curves.specs.Observer.{curvesOf}
 use Rattle.readings.specs.declared.figures.FiguresAnswer.{FiguresAnswer}
-use Rattle.readings.specs.Readings.{weighed, illuminanceOf, mesopicOf, xyzOf, xyOf, chartOf, figuresOf}
+use Rattle.readings.specs.Readings.{weighed, efficacyOf, illuminanceOf, mesopicOf, xyzOf, xyOf, chartOf, figuresOf}
 use Rattle.light_promises.specs.Lights.{Unlit, Colourless}
 
 getD-zeros : (n i : ℕ) → _≡_ {A = ℕ} (getD (replicate n 0) i 0) 0
@@ -54,9 +54,9 @@ module _ (a s : ℕ) (xs : List ℕ) (fine : lightCheck a s xs ≡ Fine) where
   unfolding W weighted
   no-sum c unlit = total-none 471 (λ k. weightOf c k * T a s xs (360 + k)) unlit
 
-  pub no-illuminance : (c : Curve) (efficacy : ℕ) → Unlit c a s xs → illuminanceOf c efficacy a s xs ≡ Reading.Value 0
+  pub no-illuminance : (c : Curve) → Unlit c a s xs → illuminanceOf c a s xs ≡ Reading.Value 0
   unfolding illuminanceOf
-  no-illuminance c efficacy unlit = rw (fine, no-sum c unlit, mul-zero efficacy, nearest-none)
+  no-illuminance c unlit = rw (fine, no-sum c unlit, mul-zero (efficacyOf c), nearest-none)
 
   pub no-mesopic : (k : ℕ) → k ≤ 1000 → Unlit YBar a s xs → Unlit VPrime a s xs → mesopicOf k a s xs ≡ Reading.Value 0
   unfolding mesopicOf
@@ -69,7 +69,7 @@ module _ (a s : ℕ) (xs : List ℕ) (fine : lightCheck a s xs ≡ Fine) where
 
     pub no-xyz : xyzOf o a s xs ≡ XyzAnswer.Value (record { x = 0; y = 0; z = 0 })
     unfolding xyzOf
-    no-xyz = rw (e, fine, no-sums .0, no-sums .1, no-sums .2, mul-zero (ofObserver o 683 684), nearest-none)
+    no-xyz = rw (e, fine, no-sums .0, no-sums .1, no-sums .2) (simp (mul-zero, nearest-none))
 
     pub no-xy : xyOf o a s xs ≡ XyAnswer.Refused (refusal DARK 0)
     unfolding xyOf xyFrom

@@ -19,14 +19,14 @@ use Rattle.spectrum.specs.Line.{W}
 use Rattle.spectrum.proofs.Measured.{W-linear}
 use Rattle.curves.specs.Observer.{curvesOf}
 use Rattle.answers.specs.Said.{saidXy, saidChart}
-use Rattle.answers.proofs.Mixed.{order as in-order}
+use Rattle.answers.proofs.Mixed.{each-order}
 use Rattle.panel.specs.Panel.{isIlluminant, illuminantOf, settingCheck, panelCheck, whiteSum, panelXyzOf, panelXyOf, panelChartOf}
 use Rattle.panel.specs.Figures.{panelFiguresOf, saidPanelFigures}
 use Rattle.panel.proofs.Accepted.{on-grid, within}
 use Rattle.panel.proofs.Sized.{divisor-some}
-use Rattle.light_promises.specs.Range.{GivenUnlessDark}
+use Rattle.light_promises.specs.Range.{Coordinates}
 use Rattle.light_promises.specs.Panels.{saidPanelXyz, fullWhite, whiteXyz}
-use Rattle.light_promises.proofs.Range.{lit, three}
+use Rattle.light_promises.proofs.Range.{coordinates, three}
 use Rattle.light_promises.proofs.Full.{step-some, panel-accepted, panel-sum, at-limit, no-more}
 
 pub is-given : (o i a s : ℕ) (rs : List ℕ) → panelCheck o i a s rs ≡ Fine → saidPanelXyz o i a s rs .number ≡ 0
@@ -35,9 +35,9 @@ is-given o i a s rs fine = rw fine
 
 pub xy-given :
     (o i a s : ℕ) (rs : List ℕ) → panelCheck o i a s rs ≡ Fine →
-    GivenUnlessDark (saidXy (panelXyOf o i a s rs)) × GivenUnlessDark (saidChart (panelChartOf o i a s rs))
+    Coordinates (saidXy (panelXyOf o i a s rs)) (saidChart (panelChartOf o i a s rs))
 unfolding panelXyOf panelChartOf
-xy-given o i a s rs fine = rw fine (lit _ _ _)
+xy-given o i a s rs fine = rw fine (coordinates _ _ _)
 
 pub figures-given : (o i a s : ℕ) (rs : List ℕ) → panelCheck o i a s rs ≡ Fine → saidPanelFigures (panelFiguresOf o i a s rs) .number ≡ 0
 unfolding panelFiguresOf
@@ -108,5 +108,5 @@ order o i a s rs qs p q l b =
     let n = length rs in
     let linear = ten-linear o i a s n in
     rw (p, q)
-    (in-order n (s * whiteSum o i) (divisor-some o i a s rs p) rs qs refl (sym l) (_ ∷ _ ∷ _ ∷ [])
+    (each-order n (s * whiteSum o i) (divisor-some o i a s rs p) rs qs refl (sym l) (_ ∷ _ ∷ _ ∷ [])
     (linear (curvesOf o .x), (linear (curvesOf o .y), (linear (curvesOf o .z), tt))) b)

@@ -30,13 +30,13 @@ pub record Mixable (a s : ℕ) (xs ys : List ℕ) : Type 0 where
   pub one-grid : length xs ≡ length ys
   pub within : Within 1000000 (mix xs ys)
 
--- each value of the mixture differs from the sum of the two by at most one unit
+-- each value of the mixture differs from the sum of the two by at most one unit; that all three are given is promised in `Range`
 abbrev pub OneUnit : Answer → Type 0
 OneUnit answer =
     (a s : ℕ) (xs ys : List ℕ) → Mixable a s xs ys → (i : ℕ) →
     Differ 1 (value (answer a s (mix xs ys)) i) (value (answer a s xs) i + value (answer a s ys) i)
 
--- where no sample of one is above the other's at its place, no value is
+-- where no sample of one is above the other's at its place, no value is; both are given, by `Range`
 abbrev pub InOrder : Answer → Type 0
 InOrder answer =
     (a s : ℕ) (xs ys : List ℕ) → lightCheck a s xs ≡ Fine → lightCheck a s ys ≡ Fine → length xs ≡ length ys → Below xs ys →

@@ -14,7 +14,7 @@ use Rattle.answers.specs.Said.{saidXyz, saidXy, saidChart}
 use Rattle.curves.specs.Observer.{ofObserver}
 use Rattle.panel.specs.Panel.{isIlluminant, panelCheck, panelXyzOf, panelXyOf, panelChartOf}
 use Rattle.panel.specs.Figures.{panelFiguresOf, saidPanelFigures}
-use Rattle.light_promises.specs.Range.{full, GivenUnlessDark}
+use Rattle.light_promises.specs.Range.{full, Coordinates}
 
 -- X, Y, Z as the rules' number and values
 abbrev pub saidPanelXyz : ℕ → ℕ → ℕ → ℕ → List ℕ → Said
@@ -40,10 +40,10 @@ pub record Panels : Type 0 where
   pub white :
       (o i s : ℕ) → isObserver o ≡ true → isIlluminant i ≡ true → isStep s ≡ true →
       saidPanelXyz o i 360 s (fullWhite s) ≡ given (whiteXyz o i) []
-  -- x, y and the chart's point of a panel that is accepted are given unless they are dark, and its figures in one call always
+  -- its x, y and chart's point are given unless they are dark, and its figures in one call always
   pub xy :
       (o i a s : ℕ) (rs : List ℕ) → panelCheck o i a s rs ≡ Fine →
-      GivenUnlessDark (saidXy (panelXyOf o i a s rs)) × GivenUnlessDark (saidChart (panelChartOf o i a s rs))
+      Coordinates (saidXy (panelXyOf o i a s rs)) (saidChart (panelChartOf o i a s rs))
   pub figures : (o i a s : ℕ) (rs : List ℕ) → panelCheck o i a s rs ≡ Fine → saidPanelFigures (panelFiguresOf o i a s rs) .number ≡ 0
   -- reflectances place by place no higher give X, Y, Z no higher
   pub order :

@@ -2,18 +2,16 @@
 use mathlib.Core.Path.{_≡_}
 use mathlib.Core.Bool.{true}
 use mathlib.Core.List.{List, [], _∷_}
-use Prim.Native.Nat.{ℕ, _+_, _*_, _-_, _/_, _^_, _≤_, _<_}
+use Prim.Native.Nat.{ℕ, _+_, _*_, _/_, _≤_, _<_}
 use lib.ListN.{getD, replicate}
 use Rattle.grid.specs.declared.Check.the-variants.{Fine}
 use Rattle.grid.specs.Check.{Within, isObserver, isStep, lightCheck}
 use Rattle.grid.specs.Said.{Said, value, given}
 use Rattle.mixing.specs.Nearest.{nearest}
 use Rattle.mixing.specs.Sum.{total}
-use Rattle.tables.specs.declared.Curve.the-variants.{YBar, VPrime}
-use Rattle.tables.specs.Columns.{tableSum}
 use Rattle.spectrum.specs.Line.{W}
 use Rattle.answers.specs.Said.{saidReading, saidXyz, saidXy, saidChart}
-use Rattle.readings.specs.Readings.{photopicOf, scotopicOf, photopic10Of, mesopicOf, xyzOf, xyOf, chartOf, figuresOf}
+use Rattle.readings.specs.Readings.{photopicOf, scotopicOf, photopic10Of, mesopicSum, mesopicDivisor, mesopicOf, xyzOf, xyOf, chartOf, figuresOf}
 use Rattle.readings.specs.Figures.{saidFigures}
 use Rattle.light_promises.specs.Lights.{Answer, IsDark}
 
@@ -27,15 +25,19 @@ pub record Greatest (answer : Answer) (values : List ℕ) : Type 0 where
   pub at-most : (a s : ℕ) (xs : List ℕ) → lightCheck a s xs ≡ Fine → (i : ℕ) → value (answer a s xs) i ≤ getD values i 0
   pub attained : (s : ℕ) → isStep s ≡ true → answer 360 s (full 1000000 s) ≡ given values []
 
--- 683000 (k · W(V) + (1000 - k) · W(V′)) of that light, over what it is divided by; s cancels
+-- the mesopic reading at k of that light, at step 1
 abbrev pub mesopicGreatest : ℕ → ℕ
-mesopicGreatest k =
-    nearest (683000 * (k * (1000000 * tableSum YBar) + (1000 - k) * (1000000 * tableSum VPrime)))
-    (10 ^ 16 * (1000 * k + 402 * (1000 - k)))
+mesopicGreatest k = nearest (mesopicSum k 360 1 (full 1000000 1)) (mesopicDivisor k 1)
 
 -- given, unless it is refused as dark
 abbrev pub GivenUnlessDark : Said → Type 0
 GivenUnlessDark said = (IsDark said → ⊥) → said .number ≡ 0
+
+-- x and y are given, each at most 100000, and the chart's point is given, unless they are dark
+pub record Coordinates (xy chart : Said) : Type 0 where
+  pub xy-given : GivenUnlessDark xy
+  pub at-most : (i : ℕ) → value xy i ≤ 100000
+  pub chart-given : GivenUnlessDark chart
 
 pub record Range : Type 0 where
   -- for any weights and any row within a limit, W is at most s times the limit times the sum of the weights
@@ -45,12 +47,13 @@ pub record Range : Type 0 where
   pub scotopic : Greatest (λ a s xs. saidReading (scotopicOf a s xs)) (165021238 ∷ [])
   pub photopic-10 : Greatest (λ a s xs. saidReading (photopic10Of a s xs)) (79796724 ∷ [])
   pub mesopic : (k : ℕ) → k ≤ 1000 → Greatest (λ a s xs. saidReading (mesopicOf k a s xs)) (mesopicGreatest k ∷ [])
-  -- of which the one at k = 0 is the greatest
-  pub mesopic-any : (k : ℕ) → k ≤ 1000 → mesopicGreatest k ≤ 164924650
+  -- the most of all is that at k = 0
+  pub mesopic-any : (k : ℕ) → k ≤ 1000 → mesopicGreatest k ≤ mesopicGreatest 0
+  pub mesopic-0 : mesopicGreatest 0 ≡ 164924650
   pub xyz : Greatest (λ a s xs. saidXyz (xyzOf 2 a s xs)) (72989116 ∷ 72983274 ∷ 73007408 ∷ [])
   pub xyz-10 : Greatest (λ a s xs. saidXyz (xyzOf 10 a s xs)) (79787587 ∷ 79796724 ∷ 79805003 ∷ [])
   pub xy :
       (o a s : ℕ) (xs : List ℕ) → isObserver o ≡ true → lightCheck a s xs ≡ Fine →
-      GivenUnlessDark (saidXy (xyOf o a s xs)) × GivenUnlessDark (saidChart (chartOf o a s xs))
+      Coordinates (saidXy (xyOf o a s xs)) (saidChart (chartOf o a s xs))
   -- the figures in one call, dark or not
   pub figures : (a s : ℕ) (xs : List ℕ) → lightCheck a s xs ≡ Fine → saidFigures (figuresOf a s xs) .number ≡ 0

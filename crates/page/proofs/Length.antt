@@ -45,8 +45,8 @@ numbered-length r =
 colour-length : (xy : XyAnswer) → SmallXy xy → length (colourLines xy) ≤ 20
 unfolding colourLines
 colour-length (XyAnswer.Value v) h =
-    let x = coordinate-length (ascii "x ") (v .x) (h .0) in
-    let y = coordinate-length (ascii "y ") (v .y) (h .1) in
+    let x = coordinate-length (ascii "x ") (v .x) (h 0) in
+    let y = coordinate-length (ascii "y ") (v .y) (h 1) in
     simp length-append (omega arith)
 colour-length (XyAnswer.Refused dark) h =
     omega (arith, length-append (line (ascii "x ") (ascii "-")) (line (ascii "y ") (ascii "-")), line-length (ascii "x ") (ascii "-"), line-length (ascii "y ") (ascii "-"))

@@ -21,7 +21,7 @@ use Rattle.spectrum.proofs.Begin.{partFrom, few, begun, W-begun}
 use Rattle.answers.specs.declared.from_sums.SumsAnswer.{SumsAnswer}
 use Rattle.answers.specs.FromSums.{ShortTotal, XyzFit}
 use Rattle.answers.proofs.FromSums.{given-sums}
-use Rattle.readings.specs.Readings.{weighed, colourCheck}
+use Rattle.readings.specs.Readings.{weighed, efficacyOf, colourCheck}
 use Rattle.readings.specs.Sums.{LightSums, LightSummed}
 use Rattle.readings.proofs.Small.{weighed-small, millilux-fits}
 
@@ -47,12 +47,13 @@ module _ {a s : ℕ} {xs : List ℕ} (light : AcceptedLight a s xs) where
       let z = small (curvesOf o .z) in
       rw (is .x, is .y, is .z) (omega arith)
 
-  -- and each of the three, times an efficacy, gives millilux of 32 bits
+  -- and each of the three gives millilux of 32 bits
   pub xyz-fit :
-      {o : ℕ} {sums : Sums} → LightSums o a s xs sums → (f : ℕ) → f ≤ 1700 →
-      XyzFit (f * short (sums .x)) (f * short (sums .y)) (f * short (sums .z)) (s * 10 ^ 16)
-  xyz-fit {o} is f few =
-      let fits = millilux-fits a s xs (light .fine) f few in
+      {o : ℕ} {sums : Sums} → LightSums o a s xs sums →
+      XyzFit (efficacyOf (curvesOf o .x) * short (sums .x)) (efficacyOf (curvesOf o .y) * short (sums .y))
+      (efficacyOf (curvesOf o .z) * short (sums .z)) (s * 10 ^ 16)
+  xyz-fit {o} is =
+      let fits = millilux-fits a s xs (light .fine) in
       rw (is .x, is .y, is .z) (record { x-fits = fits (curvesOf o .x); y-fits = fits (curvesOf o .y); z-fits = fits (curvesOf o .z) })
 
 -- and so did one whose observer passed too

@@ -1,5 +1,5 @@
 -- The sums of samples within the limit have a bound, so every reading is a number of 32 bits, and every sum on the way one of 96.
-use mathlib.Core.Path.{_≡_}
+use mathlib.Core.Path.{_≡_, refl}
 use mathlib.Core.Bool.{Bool, true, false, cond}
 use mathlib.Core.List.{List}
 use Prim.Native.Nat.{ℕ, _+_, _*_, _-_, _^_, _≤_, _<_}
@@ -12,14 +12,14 @@ use Rattle.grid.proofs.Light.{within, on-grid}
 use Rattle.mixing.proofs.Nearest.{nearest-bound}
 use Rattle.exact.specs.Fits.{Fits}
 use Rattle.tables.specs.declared.Curve.{Curve}
-use Rattle.tables.specs.declared.Curve.the-variants.{YBar, VPrime}
+use Rattle.tables.specs.declared.Curve.the-variants.{XBar, YBar, ZBar, XBar10, YBar10, ZBar10, VPrime}
 use Rattle.tables.specs.Curves.{weightOf}
 use Rattle.tables.specs.Columns.{tableSum}
 use Rattle.tables.proofs.Columns.{column-total}
 use Rattle.tables.proofs.Sums.{table-sum-small}
-use Rattle.curves.specs.Observer.{ofObserver}
+use Rattle.curves.specs.Observer.{curvesOf}
 use Rattle.spectrum.proofs.Light.{W-bound}
-use Rattle.readings.specs.Readings.{weighed, mesopicWeighed, mesopicSum, mesopicDivisor}
+use Rattle.readings.specs.Readings.{weighed, efficacyOf, mesopicWeighed, mesopicSum, mesopicDivisor, lightFigures}
 
 module _ (a s : ℕ) (xs : List ℕ) (low : 1 ≤ s) (within : Within 1000000 xs) (c : Curve) where
   -- the sum of a light that is at the limit everywhere is the greatest
@@ -40,12 +40,26 @@ mesopic-divisor-small d f hd hf = let x : d * f ≤ 100000000000000000 * 1000000
 mesopic-ratio : (s w d : ℕ) → w ≤ s * 4000000000000000000000000 → s * 10 ^ 16 * 402000 ≤ d → 683000 * w ≤ 1000000000 * d
 mesopic-ratio s w d p q = omega arith
 
-pub efficacy-small : (o : ℕ) → ofObserver o 683 684 ≤ 1700
-efficacy-small o = go (eqb o 10)
+efficacy-small : (c : Curve) → efficacyOf c ≤ 1700
+efficacy-small XBar = lit≤ tt
+efficacy-small YBar = lit≤ tt
+efficacy-small ZBar = lit≤ tt
+efficacy-small XBar10 = lit≤ tt
+efficacy-small YBar10 = lit≤ tt
+efficacy-small ZBar10 = lit≤ tt
+efficacy-small VPrime = lit≤ tt
+
+-- an observer's three curves have one efficacy
+pub one-efficacy :
+    (o : ℕ) → (efficacyOf (curvesOf o .x) ≡ efficacyOf (curvesOf o .y)) × (efficacyOf (curvesOf o .z) ≡ efficacyOf (curvesOf o .y))
+one-efficacy o = go (eqb o 10)
   where
-    go : (ten : Bool) → cond ten 684 683 ≤ 1700
-    go true = lit≤ tt
-    go false = lit≤ tt
+    go :
+        (ten : Bool) →
+        (efficacyOf (cond ten XBar10 XBar) ≡ efficacyOf (cond ten YBar10 YBar))
+        × (efficacyOf (cond ten ZBar10 ZBar) ≡ efficacyOf (cond ten YBar10 YBar))
+    go true = (refl, refl)
+    go false = (refl, refl)
 
 -- every reading of an accepted light is a number of 32 bits
 module _ (a s : ℕ) (xs : List ℕ) (fine : lightCheck a s xs ≡ Fine) where
@@ -55,12 +69,23 @@ module _ (a s : ℕ) (xs : List ℕ) (fine : lightCheck a s xs ≡ Fine) where
   small : (c : Curve) → weighed c a s xs ≤ s * 2000000000000000000000
   small = weighed-small a s xs step-some (within a s xs fine)
 
-  pub millilux-fits : (f : ℕ) → f ≤ 1700 → (c : Curve) → Fits (f * weighed c a s xs) (s * 10 ^ 16)
-  millilux-fits f few c =
+  pub millilux-fits : (c : Curve) → Fits (efficacyOf c * weighed c a s xs) (s * 10 ^ 16)
+  millilux-fits c =
       let some = step-some in
       let sum = small c in
-      let x : f * weighed c a s xs ≤ 1700 * weighed c a s xs = mul-le-mul-right (weighed c a s xs) few in
-      record { divisor = omega arith; most = nearest-bound 4294967295 (f * weighed c a s xs) (s * 10 ^ 16) (omega arith) }
+      let x : efficacyOf c * weighed c a s xs ≤ 1700 * weighed c a s xs = mul-le-mul-right (weighed c a s xs) (efficacy-small c) in
+      record { divisor = omega arith; most = nearest-bound 4294967295 (efficacyOf c * weighed c a s xs) (s * 10 ^ 16) (omega arith) }
+
+  pub figures-most :
+      let f = lightFigures a s xs in
+      (f .photopic ≤ 4294967295)
+      × (f .scotopic ≤ 4294967295)
+      × (f .xyz .x ≤ 4294967295)
+      × (f .xyz .y ≤ 4294967295)
+      × (f .xyz .z ≤ 4294967295)
+  figures-most =
+      let fits = millilux-fits in
+      (fits YBar .most, fits VPrime .most, fits XBar .most, fits YBar .most, fits ZBar .most)
 
   pub mesopic-fits : (k : ℕ) → k ≤ 1000 → Fits (mesopicSum k a s xs) (mesopicDivisor k s)
   mesopic-fits k few =

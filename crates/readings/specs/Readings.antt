@@ -7,7 +7,7 @@ use Rattle.grid.specs.declared.Check.{Check}
 use Rattle.grid.specs.Check.{unless, require, isObserver, lightCheck}
 use Rattle.mixing.specs.Nearest.{nearest}
 use Rattle.tables.specs.declared.Curve.{Curve}
-use Rattle.tables.specs.declared.Curve.the-variants.{YBar, YBar10, VPrime}
+use Rattle.tables.specs.declared.Curve.the-variants.{XBar, YBar, ZBar, XBar10, YBar10, ZBar10, VPrime}
 use Rattle.tables.specs.Curves.{weightOf}
 use Rattle.spectrum.specs.Line.{W}
 use Rattle.answers.specs.declared.Reading.{Reading}
@@ -15,8 +15,8 @@ use Rattle.answers.specs.declared.Xyz.{Xyz}
 use Rattle.answers.specs.declared.XyzAnswer.{XyzAnswer}
 use Rattle.answers.specs.declared.XyAnswer.{XyAnswer}
 use Rattle.answers.specs.declared.ChartAnswer.{ChartAnswer}
-use Rattle.answers.specs.Worked.{xyzFrom, xyFrom, onChart}
-use Rattle.curves.specs.Observer.{ofObserver, curvesOf}
+use Rattle.answers.specs.Worked.{xyFrom, onChart}
+use Rattle.curves.specs.Observer.{curvesOf}
 use Rattle.readings.specs.declared.figures.ReportFigures.{ReportFigures}
 use Rattle.readings.specs.declared.figures.FiguresAnswer.{FiguresAnswer}
 
@@ -24,25 +24,35 @@ use Rattle.readings.specs.declared.figures.FiguresAnswer.{FiguresAnswer}
 abbrev pub weighed : Curve → ℕ → ℕ → List ℕ → ℕ
 weighed c a s xs = W (weightOf c) a s xs
 
+-- the efficacy: 683, for the curves of observer 10 684, and for V′ 1700
+abbrev pub efficacyOf : Curve → ℕ
+efficacyOf XBar = 683
+efficacyOf YBar = 683
+efficacyOf ZBar = 683
+efficacyOf XBar10 = 684
+efficacyOf YBar10 = 684
+efficacyOf ZBar10 = 684
+efficacyOf VPrime = 1700
+
 -- in millilux: the nearest of efficacy · W / (s · 10^16)
-abbrev pub millilux : Curve → ℕ → ℕ → ℕ → List ℕ → ℕ
-millilux c efficacy a s xs = nearest (efficacy * weighed c a s xs) (s * 10 ^ 16)
+abbrev pub millilux : Curve → ℕ → ℕ → List ℕ → ℕ
+millilux c a s xs = nearest (efficacyOf c * weighed c a s xs) (s * 10 ^ 16)
 
 -- an illuminance of a light
-unfoldable pub illuminanceOf : Curve → ℕ → ℕ → ℕ → List ℕ → Reading
-illuminanceOf c efficacy a s xs = unless (lightCheck a s xs) Reading.Refused (Reading.Value (millilux c efficacy a s xs))
+unfoldable pub illuminanceOf : Curve → ℕ → ℕ → List ℕ → Reading
+illuminanceOf c a s xs = unless (lightCheck a s xs) Reading.Refused (Reading.Value (millilux c a s xs))
 
--- photopic: 683 W(V) / (s · 10^16), V being ȳ
+-- photopic: by V, which is ȳ
 abbrev pub photopicOf : ℕ → ℕ → List ℕ → Reading
-photopicOf a s xs = illuminanceOf YBar 683 a s xs
+photopicOf a s xs = illuminanceOf YBar a s xs
 
--- scotopic: 1700 W(V′) / (s · 10^16)
+-- scotopic: by V′
 abbrev pub scotopicOf : ℕ → ℕ → List ℕ → Reading
-scotopicOf a s xs = illuminanceOf VPrime 1700 a s xs
+scotopicOf a s xs = illuminanceOf VPrime a s xs
 
--- 10° photopic: 684 W(V10) / (s · 10^16), V10 being ȳ10
+-- 10° photopic: by V10, which is ȳ10
 abbrev pub photopic10Of : ℕ → ℕ → List ℕ → Reading
-photopic10Of a s xs = illuminanceOf YBar10 684 a s xs
+photopic10Of a s xs = illuminanceOf YBar10 a s xs
 
 -- MESOPIC: k above 1000
 abbrev pub mesopicCheck : ℕ → ℕ → ℕ → List ℕ → Check
@@ -79,11 +89,10 @@ ySum o a s xs = weighed (curvesOf o .y) a s xs
 abbrev pub zSum : ℕ → ℕ → ℕ → List ℕ → ℕ
 zSum o a s xs = weighed (curvesOf o .z) a s xs
 
--- X, Y, Z in millilux: 683 W / (s · 10^16), and 684 for observer 10
+-- X, Y, Z in millilux, by the observer's x̄, ȳ and z̄
 abbrev pub lightXyz : ℕ → ℕ → ℕ → List ℕ → Xyz
 lightXyz o a s xs =
-    xyzFrom (ofObserver o 683 684 * xSum o a s xs) (ofObserver o 683 684 * ySum o a s xs) (ofObserver o 683 684 * zSum o a s xs)
-    (s * 10 ^ 16)
+    record { x = millilux (curvesOf o .x) a s xs; y = millilux (curvesOf o .y) a s xs; z = millilux (curvesOf o .z) a s xs }
 
 unfoldable pub xyzOf : ℕ → ℕ → ℕ → List ℕ → XyzAnswer
 xyzOf o a s xs = unless (colourCheck o a s xs) XyzAnswer.Refused (XyzAnswer.Value (lightXyz o a s xs))
@@ -103,8 +112,8 @@ chartOf o a s xs = unless (colourCheck o a s xs) ChartAnswer.Refused (ChartAnswe
 abbrev pub lightFigures : ℕ → ℕ → List ℕ → ReportFigures
 lightFigures a s xs =
     record {
-      photopic = millilux YBar 683 a s xs;
-      scotopic = millilux VPrime 1700 a s xs;
+      photopic = millilux YBar a s xs;
+      scotopic = millilux VPrime a s xs;
       xyz = lightXyz 2 a s xs;
       xy = lightXy 2 a s xs;
     }

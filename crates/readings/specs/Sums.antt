@@ -10,10 +10,10 @@ use Rattle.curves.specs.Observer.{SumsBy}
 use Rattle.answers.specs.declared.from_sums.SumsAnswer.{SumsAnswer}
 use Rattle.answers.specs.Worked.{xyzFrom, xyFrom}
 use Rattle.answers.specs.FromSums.{Summed, XyzFit}
-use Rattle.tables.specs.declared.Curve.the-variants.{VPrime}
+use Rattle.tables.specs.declared.Curve.the-variants.{XBar, YBar, ZBar, VPrime}
 use Rattle.readings.specs.declared.sums.FigureSums.{FigureSums}
 use Rattle.readings.specs.declared.figures.ReportFigures.{ReportFigures}
-use Rattle.readings.specs.Readings.{weighed, colourCheck}
+use Rattle.readings.specs.Readings.{weighed, efficacyOf, colourCheck}
 
 -- W of each of the observer's curves
 abbrev pub LightSums : ℕ → ℕ → ℕ → List ℕ → Sums → Type 0
@@ -28,18 +28,20 @@ pub record FigureSumsOf (a s : ℕ) (xs : List ℕ) (sums : FigureSums) : Type 0
   pub colour : LightSums 2 a s xs (sums .colour)
   pub night : short (sums .night) ≡ weighed VPrime a s xs
 
--- four sums whose figures over d are numbers of 32 bits
+-- four sums whose figures over d are numbers of 32 bits, and whose three for colour come to one of 96
 pub record FiguresFit (sums : FigureSums) (d : ℕ) : Type 0 where
+  pub xyz :
+      XyzFit (efficacyOf XBar * short (sums .colour .x)) (efficacyOf YBar * short (sums .colour .y))
+      (efficacyOf ZBar * short (sums .colour .z)) d
+  pub scotopic : Fits (efficacyOf VPrime * short (sums .night)) d
   pub total : short (sums .colour .x) + short (sums .colour .y) + short (sums .colour .z) < 2 ^ 96
-  pub xyz : XyzFit (683 * short (sums .colour .x)) (683 * short (sums .colour .y)) (683 * short (sums .colour .z)) d
-  pub scotopic : Fits (1700 * short (sums .night)) d
 
 -- the figures of the report from the sums x, y, z of observer 2 and that of V′, over d: photopic is Y
 abbrev pub figuresFrom : ℕ → ℕ → ℕ → ℕ → ℕ → ReportFigures
 figuresFrom x y z night d =
     record {
-      photopic = nearest (683 * y) d;
-      scotopic = nearest (1700 * night) d;
-      xyz = xyzFrom (683 * x) (683 * y) (683 * z) d;
+      photopic = nearest (efficacyOf YBar * y) d;
+      scotopic = nearest (efficacyOf VPrime * night) d;
+      xyz = xyzFrom (efficacyOf XBar * x) (efficacyOf YBar * y) (efficacyOf ZBar * z) d;
       xy = xyFrom x y z;
     }

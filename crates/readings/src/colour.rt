@@ -1,4 +1,5 @@
 // X, Y, Z, the coordinates x and y, and the chart's point of a light, all from the same three exact sums.
+use crate::efficacy;
 use crate::scale;
 use crate::sums::colour_sums;
 use answers::ChartAnswer;
@@ -8,6 +9,7 @@ use answers::from_sums::SumsAnswer;
 use answers::from_sums::chart_summed;
 use answers::from_sums::xy_summed;
 use answers::work::xyz_from;
+use curves::weigh::curves_of;
 use grid::Check;
 use grid::check_light;
 use grid::is_observer;
@@ -15,7 +17,6 @@ use grid::refusals::OBSERVER;
 use grid::refused;
 use spectrum::line::begin_at_360;
 ghost use mathlib.Core.Path.{_≡_};
-ghost use Rattle.curves.specs.Observer.{ofObserver};
 ghost use Rattle.readings.specs.Readings.{colourCheck, xyzOf, xyOf, chartOf};
 ghost use Rattle.readings.specs.Sums.{LightSummed};
 
@@ -26,7 +27,10 @@ pub fn xyz(observer: u32, start: u32, step: u32, samples: &[u32]) -> XyzAnswer
     let answer = light_sums(observer, start, step, samples);
     match answer {
         SumsAnswer::Given(sums) => {
-            XyzAnswer::Value(xyz_from(efficacy(observer), sums, scale(step)))
+            // An observer's three curves have one efficacy.
+            let curves = curves_of(observer);
+            let y = curves.y;
+            XyzAnswer::Value(xyz_from(efficacy(y), sums, scale(step)))
         }
         SumsAnswer::Refused(refusal) => XyzAnswer::Refused(refusal),
     }
@@ -55,12 +59,6 @@ fn check_colour(observer: u32, start: u32, step: u32, samples: &[u32]) -> Check
     } else {
         refused(OBSERVER)
     }
-}
-
-fn efficacy(observer: u32) -> u32
-    ensures { λ r. ⌜ r ≡ ofObserver observer 683 684 ⌝ }
-{
-    if observer == 10 { 684 } else { 683 }
 }
 
 // The three sums of a light, or its first refusal.

@@ -1,4 +1,5 @@
 // The figures of the report, at observer 2, in one call: the row is laid once, and each sum is made once.
+use crate::efficacy;
 use crate::scale;
 use crate::sums::FigureSums;
 use crate::sums::figure_sums;
@@ -12,6 +13,7 @@ use grid::Check;
 use grid::Refusal;
 use grid::check_light;
 use spectrum::line::begin_at_360;
+use tables::Curve;
 ghost use mathlib.Core.Path.{_≡_};
 ghost use Rattle.exact.specs.Value.{short};
 ghost use Rattle.readings.specs.Readings.{figuresOf};
@@ -54,10 +56,10 @@ fn figures_from(sums: FigureSums, divisor: Short) -> ReportFigures
 {
     let colour = sums.colour;
     let night = sums.night;
-    let xyz = xyz_from(683, colour, divisor);
+    let xyz = xyz_from(efficacy(Curve::YBar), colour, divisor);
     ReportFigures {
         photopic: xyz.y,
-        scotopic: nearest(1700, night, divisor),
+        scotopic: nearest(efficacy(Curve::VPrime), night, divisor),
         xyz,
         xy: xy_from(colour),
     }

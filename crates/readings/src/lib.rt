@@ -22,33 +22,31 @@ ghost use Rattle.mixing.specs.Nearest.{nearest as nearestOf};
 ghost use Rattle.exact.specs.Value.{short};
 ghost use Rattle.grid.specs.declared.Check.the-variants.{Fine};
 ghost use Rattle.grid.specs.Check.{lightCheck};
-ghost use Rattle.readings.specs.Readings.{illuminanceOf, photopicOf, scotopicOf, photopic10Of, mesopicOf, mesopicSum, mesopicDivisor};
+ghost use Rattle.readings.specs.Readings.{efficacyOf, illuminanceOf, photopicOf, scotopicOf, photopic10Of, mesopicOf, mesopicSum, mesopicDivisor};
 
 // Photopic illuminance in millilux.
 pub fn photopic(start: u32, step: u32, samples: &[u32]) -> Reading
     ensures { λ r. ⌜ r ≡ photopicOf start step (now (samples .entry)) ⌝ }
 {
-    illuminance(Curve::YBar, 683, start, step, samples)
+    illuminance(Curve::YBar, start, step, samples)
 }
 
 // Scotopic illuminance in millilux.
 pub fn scotopic(start: u32, step: u32, samples: &[u32]) -> Reading
     ensures { λ r. ⌜ r ≡ scotopicOf start step (now (samples .entry)) ⌝ }
 {
-    illuminance(Curve::VPrime, 1700, start, step, samples)
+    illuminance(Curve::VPrime, start, step, samples)
 }
 
 // 10° photopic illuminance in millilux.
 pub fn photopic_10(start: u32, step: u32, samples: &[u32]) -> Reading
     ensures { λ r. ⌜ r ≡ photopic10Of start step (now (samples .entry)) ⌝ }
 {
-    illuminance(Curve::YBar10, 684, start, step, samples)
+    illuminance(Curve::YBar10, start, step, samples)
 }
 
-// At most 1700, the scotopic efficacy, leaves every reading within 32 bits.
-fn illuminance(curve: Curve, efficacy: u32, start: u32, step: u32, samples: &[u32]) -> Reading
-    requires { ⌜ efficacy ≤ 1700 ⌝ }
-    ensures { λ r. ⌜ r ≡ illuminanceOf curve efficacy start step (now (samples .entry)) ⌝ }
+fn illuminance(curve: Curve, start: u32, step: u32, samples: &[u32]) -> Reading
+    ensures { λ r. ⌜ r ≡ illuminanceOf curve start step (now (samples .entry)) ⌝ }
 {
     let check = check_light(start, step, samples);
     match check {
@@ -56,9 +54,24 @@ fn illuminance(curve: Curve, efficacy: u32, start: u32, step: u32, samples: &[u3
             let begin = begin_at_360(start, step);
             let j = begin.place;
             let sum = weighed(curve, begin.wavelength, step, &samples[j..]);
-            Reading::Value(nearest(efficacy, sum, scale(step)))
+            Reading::Value(nearest(efficacy(curve), sum, scale(step)))
         }
         Check::Refused(refusal) => Reading::Refused(refusal),
+    }
+}
+
+// The efficacy of a curve.
+fn efficacy(curve: Curve) -> u32
+    ensures { λ r. ⌜ r ≡ efficacyOf curve ⌝ }
+{
+    match curve {
+        Curve::XBar => 683,
+        Curve::YBar => 683,
+        Curve::ZBar => 683,
+        Curve::XBar10 => 684,
+        Curve::YBar10 => 684,
+        Curve::ZBar10 => 684,
+        Curve::VPrime => 1700,
     }
 }
 

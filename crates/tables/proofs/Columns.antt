@@ -1,4 +1,4 @@
--- What is computed over each whole table, once: every bound of an entry or of a sum is taken from here.
+-- What is computed over each whole table, once: every bound of an entry, and of a sum by one table, is taken from here.
 use mathlib.Core.Path.{_≡_, refl, _∙_}
 use Prim.Native.Nat.{ℕ, _≤_}
 use native.Mathlib.Nat.{le-trans}

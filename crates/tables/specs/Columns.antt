@@ -1,4 +1,4 @@
--- What is computed over a whole table: its length, its sum and its largest entry.
+-- What is computed over a whole table: its length, its sum and its largest entry; and the sum of illuminant times curve.
 use mathlib.Core.Path.{_≡_}
 use mathlib.Core.List.{List, [], _∷_}
 use Prim.Native.Nat.{ℕ, max}

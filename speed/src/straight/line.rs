@@ -52,9 +52,10 @@ pub fn weigh(weights: &Table, line: &Table) -> u128 {
     products.sum()
 }
 
-/// The nearest whole number, halves up: no accepted input has one past 32 bits.
+/// The nearest whole number, halves up.
 pub fn nearest(numerator: u128, denominator: u128) -> u32 {
-    ((2 * numerator + denominator) / (2 * denominator)) as u32
+    let nearest = (2 * numerator + denominator) / (2 * denominator);
+    u32::try_from(nearest).expect("no accepted input has a reading past 32 bits")
 }
 
 /// The number and the values of x and y, where dark ones are 9 and no refusal of the whole.

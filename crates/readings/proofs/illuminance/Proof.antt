@@ -1,7 +1,8 @@
 -- The sum over the part is an accepted light's, and is divided once.
-use mathlib.Core.Path.{_∙_, sym}
+use mathlib.Core.Path.{_≡_, _∙_, sym}
 use native.Mathlib.Omega.{arith}
-use Rattle.readings.specs.Readings.{illuminanceOf}
+use Rattle.exact.specs.Value.{short}
+use Rattle.readings.specs.Readings.{weighed, illuminanceOf}
 use Rattle.readings.proofs.Small.{millilux-fits}
 use Rattle.readings.proofs.Part.{AcceptedLight, sought, step-small, BegunLight, in-row, part-begun, weighed-begun}
 use borrow.Author.Needs.{needs}
@@ -34,21 +35,26 @@ weighed-requires : tie.Need-weighed-requires
 weighed-requires c κs = part-begun (part (c .before))
 
 scale-requires : tie.Need-scale-requires
-scale-requires c κs = step-small (light (c .before .before .before))
+scale-requires c κs = step-small (light (c .before .before .before .before))
+
+-- the sum over the part is the light's
+sum-is :
+    (c : tie.After-weighed) → let t = begin (c .before .before .before) .args in short (c .weighed .result) ≡ weighed (t .curve) (t .start) (t .step) (t .samples .now)
+sum-is c = c .weighed .ensures ∙ weighed-begun (part (c .before .before)) _
 
 nearest-requires : tie.Need-nearest-requires
 nearest-requires c κs =
-    let sum = c .before in
+    let sum = c .before .before in
     let is = part (sum .before .before) in
     let t = begin (sum .before .before .before) .args in
-    rw (sum .weighed .ensures, weighed-begun is, c .scale .ensures) (millilux-fits (t .start) (t .step) (t .samples .now) (is .light .fine) (t .efficacy) (begin (sum .before .before .before) .pre) (t .curve))
+    rw (c .before .efficacy .ensures, sum-is sum, c .scale .ensures) (millilux-fits (t .start) (t .step) (t .samples .now) (is .light .fine) (t .curve))
 
 returns : tie.Need-returns
 unfolding illuminanceOf
 returns c =
-    let sum = c .before .before in
-    let is = part (sum .before .before) in
-    rw (c .nearest .ensures, sum .weighed .ensures, weighed-begun is, c .before .scale .ensures, is .light .fine)
+    let scaled = c .before in
+    let sum = scaled .before .before in
+    rw (c .nearest .ensures, scaled .before .efficacy .ensures, sum-is sum, scaled .scale .ensures, part (sum .before .before) .light .fine)
 
 returns-2 : tie.Need-returns-2
 unfolding illuminanceOf
@@ -66,6 +72,7 @@ illuminance-spec =
     part-weighed-start
     (λ c. search needs)
     weighed-requires
+    (λ c κs. search needs)
     scale-requires
     nearest-requires
     (λ c. search needs)

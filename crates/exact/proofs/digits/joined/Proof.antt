@@ -7,8 +7,8 @@ use borrow.Author.Needs.{needs}
 use Rattle.exact.proofs.digits.joined.Statement.{statement}
 use Rattle.exact.proofs.digits.joined.Tie as tie
 
-add-high : tie.Need-add-t6
-add-high c =
+add-top : tie.Need-add-top
+add-top c =
     let h : c .args .high / 4294967296 < 4294967296 = omega arith in
     let m : (c .args .high % 4294967296 + c .args .low / 4294967296) / 4294967296 < 2 = omega arith in
     omega arith
@@ -18,4 +18,4 @@ unfolding short
 returns c = joined (2 ^ 32) _ _
 
 pub joined-spec : {M : Type 1} → statement M
-joined-spec = tie.close (tie.spec (λ c. search needs) add-high (λ c. search needs) (λ c. search needs) (λ c. search needs) returns)
+joined-spec = tie.close (tie.spec (λ c. search needs) add-top (λ c. search needs) (λ c. search needs) (λ c. search needs) returns)

@@ -7,7 +7,7 @@ use borrow.Author.Needs.{needs}
 use Rattle.exact.proofs.digits.narrow.Statement.{statement}
 use Rattle.exact.proofs.digits.narrow.Tie as tie
 
-cast-high : tie.Need-cast-t2
+cast-high : tie.Need-cast-high
 unfolding long
 cast-high c = omega (arith, c .before .pre)
 

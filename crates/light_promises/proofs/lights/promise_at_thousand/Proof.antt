@@ -11,7 +11,7 @@ use Rattle.readings.specs.Readings.{weighed, illuminanceOf, mesopicOf, mesopicS
 use Rattle.light_promises.proofs.lights.promise_at_thousand.Statement.{statement}
 use Rattle.light_promises.proofs.lights.promise_at_thousand.Tie as tie
 
-at-thousand : (a s : ℕ) (xs : List ℕ) → mesopicOf 1000 a s xs ≡ illuminanceOf YBar 683 a s xs
+at-thousand : (a s : ℕ) (xs : List ℕ) → mesopicOf 1000 a s xs ≡ illuminanceOf YBar a s xs
 unfolding mesopicOf illuminanceOf
 at-thousand a s xs =
     let w = weighed YBar a s xs in

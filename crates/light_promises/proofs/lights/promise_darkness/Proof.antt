@@ -12,9 +12,9 @@ returns c =
     record {
       accepted = zeros-accepted;
       zeros = zeros;
-      photopic = λ a s xs f u. ap saidReading (no-illuminance a s xs f YBar 683 u);
-      scotopic = λ a s xs f u. ap saidReading (no-illuminance a s xs f VPrime 1700 u);
-      photopic-10 = λ a s xs f u. ap saidReading (no-illuminance a s xs f YBar10 684 u);
+      photopic = λ a s xs f u. ap saidReading (no-illuminance a s xs f YBar u);
+      scotopic = λ a s xs f u. ap saidReading (no-illuminance a s xs f VPrime u);
+      photopic-10 = λ a s xs f u. ap saidReading (no-illuminance a s xs f YBar10 u);
       mesopic = λ k a s xs h f u v. ap saidReading (no-mesopic a s xs f k h u v);
       xyz = λ o a s xs e f u. ap saidXyz (no-xyz a s xs f o e u);
       xy = λ o a s xs e f u. ap saidXy (no-xy a s xs f o e u);

@@ -8,9 +8,9 @@ returns : tie.Need-returns
 returns c =
     record {
       accepted = mixture-accepted;
-      photopic = illuminance-unit YBar 683;
-      scotopic = illuminance-unit VPrime 1700;
-      photopic-10 = illuminance-unit YBar10 684;
+      photopic = illuminance-unit YBar;
+      scotopic = illuminance-unit VPrime;
+      photopic-10 = illuminance-unit YBar10;
       mesopic = mesopic-unit;
       xyz = xyz-mixed;
       between = between;

@@ -7,9 +7,9 @@ use Rattle.light_promises.proofs.lights.promise_order.Tie as tie
 returns : tie.Need-returns
 returns c =
     record {
-      photopic = illuminance-order YBar 683;
-      scotopic = illuminance-order VPrime 1700;
-      photopic-10 = illuminance-order YBar10 684;
+      photopic = illuminance-order YBar;
+      scotopic = illuminance-order VPrime;
+      photopic-10 = illuminance-order YBar10;
       mesopic = mesopic-order;
       xyz = xyz-ordered;
     }

@@ -3,7 +3,7 @@ use mathlib.Core.Path.{refl}
 use Rattle.mixing.specs.Nearest.{nearest}
 use Rattle.tables.specs.declared.Curve.the-variants.{YBar, YBar10, VPrime}
 use Rattle.spectrum.proofs.Light.{W-bound}
-use Rattle.light_promises.proofs.Range.{illuminance-range, mesopic-range, mesopic-any, xyz-range, xy-range, figures-range}
+use Rattle.light_promises.proofs.Range.{illuminance-range, mesopic-range, mesopic-any, mesopic-0, xyz-range, xy-range, figures-range}
 use Rattle.light_promises.proofs.lights.promise_range.Statement.{statement}
 use Rattle.light_promises.proofs.lights.promise_range.Tie as tie
 
@@ -12,11 +12,12 @@ unfolding nearest
 returns c =
     record {
       law = W-bound;
-      photopic = illuminance-range YBar 683;
-      scotopic = illuminance-range VPrime 1700;
-      photopic-10 = illuminance-range YBar10 684;
+      photopic = illuminance-range YBar;
+      scotopic = illuminance-range VPrime;
+      photopic-10 = illuminance-range YBar10;
       mesopic = mesopic-range;
       mesopic-any = mesopic-any;
+      mesopic-0 = mesopic-0;
       xyz = xyz-range 2 refl;
       xyz-10 = xyz-range 10 refl;
       xy = xy-range;

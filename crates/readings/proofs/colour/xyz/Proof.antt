@@ -1,12 +1,12 @@
 -- Each of X, Y, Z is its sum times the efficacy, divided once.
-use mathlib.Core.Path.{_≡_}
+use mathlib.Core.Path.{_≡_, _∙_}
 use Rattle.grid.specs.declared.Check.the-variants.{Fine}
+use Rattle.curves.specs.Observer.{curvesOf}
 use Rattle.answers.proofs.FromSums.{given-sums, refused-sums}
-use Rattle.curves.specs.Observer.{ofObserver}
-use Rattle.readings.specs.Readings.{xyzOf, colourCheck}
+use Rattle.readings.specs.Readings.{efficacyOf, xyzOf, colourCheck}
 use Rattle.readings.specs.Sums.{LightSums}
-use Rattle.readings.proofs.Small.{efficacy-small}
-use Rattle.readings.proofs.Part.{light-of, step-small, xyz-fit}
+use Rattle.readings.proofs.Small.{one-efficacy}
+use Rattle.readings.proofs.Part.{AcceptedLight, light-of, step-small, xyz-fit}
 use borrow.Author.Needs.{needs}
 use Rattle.readings.proofs.colour.xyz.Statement.{statement}
 use Rattle.readings.proofs.colour.xyz.Tie as tie
@@ -21,33 +21,29 @@ given :
     × LightSums (t .observer) (t .start) (t .step) (t .samples .now) (c .before .answer .given .0 .0)
 given c = let p = summed c in given-sums _ _ _ (p .light-sums .result) (p .light-sums .ensures) _ (c .before .answer .given .1)
 
+light : (c : tie.After-known-told) → let t = summed c .before .before .args in AcceptedLight (t .start) (t .step) (t .samples .now)
+light c = let t = summed c .before .before .args in light-of (t .observer) (t .start) (t .step) (t .samples .now) (given c .0)
+
+efficacy-is : (c : tie.After-efficacy) → let t = summed (c .before .before) .before .before .args in c .efficacy .result ≡ efficacyOf (curvesOf (t .observer) .y)
+efficacy-is c = c .efficacy .ensures ∙ rw (c .before .curves-of .ensures)
+
 scale-requires : tie.Need-scale-requires
-scale-requires c κs =
-    let t = summed (c .before) .before .before .args in
-    step-small (light-of (t .observer) (t .start) (t .step) (t .samples .now) (given (c .before) .0))
+scale-requires c κs = step-small (light (c .before .before))
 
 xyz-from-requires : tie.Need-xyz-from-requires
 xyz-from-requires c κs =
-    let told = c .before .before in
-    let t = summed told .before .before .args in
-    let is = given told in
-    rw (c .before .efficacy .ensures, c .scale .ensures)
-    (xyz-fit (light-of (t .observer) (t .start) (t .step) (t .samples .now) (is .0)) (is .1) (ofObserver (t .observer) 683 684) (efficacy-small (t .observer)))
+    let told = c .before .before .before in
+    let one = one-efficacy (summed told .before .before .args .observer) in
+    rw (efficacy-is (c .before), c .scale .ensures) (rw (one .0, one .1) at (xyz-fit (light told) (given told .1)))
 
 returns : tie.Need-returns
 unfolding xyzOf
 returns c =
-    let divisor = c .before in
-    let is = given (divisor .before .before) in
-    rw (
-      c .xyz-from .ensures,
-      is .1 .x,
-      is .1 .y,
-      is .1 .z,
-      divisor .before .efficacy .ensures,
-      divisor .scale .ensures,
-      is .0,
-    )
+    let worked = c .before .before in
+    let told = worked .before .before in
+    let is = given told in
+    let one = one-efficacy (summed told .before .before .args .observer) in
+    rw (c .xyz-from .ensures, is .1 .x, is .1 .y, is .1 .z, efficacy-is worked, c .before .scale .ensures, is .0, one .0, one .1)
 
 returns-2 : tie.Need-returns-2
 unfolding xyzOf
@@ -61,6 +57,7 @@ xyz-spec =
     (tie.spec
     (λ c κs. search needs)
     (λ c. search needs)
+    (λ c κs. search needs)
     (λ c κs. search needs)
     scale-requires
     xyz-from-requires

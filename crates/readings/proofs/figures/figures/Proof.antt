@@ -1,7 +1,6 @@
 -- The four sums over the part are an accepted light's.
 use mathlib.Core.Path.{_∙_, sym}
 use native.Mathlib.Omega.{arith}
-use lib.Dec.{lit≤}
 use Rattle.tables.specs.declared.Curve.the-variants.{VPrime}
 use Rattle.readings.specs.Readings.{figuresOf}
 use Rattle.readings.proofs.Small.{millilux-fits}
@@ -46,8 +45,8 @@ figures-from-requires c κs =
     let colour = colour-begun is (sums .figure-sums .ensures .colour) in
     rw (c .scale .ensures) (record {
       total = total-small (is .light) colour;
-      xyz = xyz-fit (is .light) colour 683 (lit≤ tt);
-      scotopic = rw (sums .figure-sums .ensures .night ∙ weighed-begun is VPrime) (millilux-fits (t .start) (t .step) (t .samples .now) (is .light .fine) 1700 (lit≤ tt) VPrime);
+      xyz = xyz-fit (is .light) colour;
+      scotopic = rw (sums .figure-sums .ensures .night ∙ weighed-begun is VPrime) (millilux-fits (t .start) (t .step) (t .samples .now) (is .light .fine) VPrime);
     })
 
 returns : tie.Need-returns

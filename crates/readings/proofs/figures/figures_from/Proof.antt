@@ -3,14 +3,31 @@ use borrow.Author.Needs.{needs}
 use Rattle.readings.proofs.figures.figures_from.Statement.{statement}
 use Rattle.readings.proofs.figures.figures_from.Tie as tie
 
+xyz-from-requires : tie.Need-xyz-from-requires
+xyz-from-requires c κs = rw (c .efficacy .ensures) (c .before .before .before .pre .xyz)
+
+nearest-requires : tie.Need-nearest-requires
+nearest-requires c κs = rw (c .efficacy2 .ensures) (c .before .before .before .before .before .pre .scotopic)
+
 returns : tie.Need-returns
-returns c = rw (c .before .before .xyz-from .ensures, c .before .nearest .ensures, c .xy-from .ensures)
+returns c =
+    let night = c .before .before in
+    let xyz = night .before in
+    rw (
+      xyz .xyz-from .ensures,
+      xyz .before .efficacy .ensures,
+      c .before .nearest .ensures,
+      night .efficacy2 .ensures,
+      c .xy-from .ensures,
+    )
 
 pub figures-from-spec : {M : Type 1} → statement M
 figures-from-spec =
     tie.close
     (tie.spec
     (λ c κs. search needs)
+    xyz-from-requires
     (λ c κs. search needs)
+    nearest-requires
     (λ c κs. search needs)
     returns)

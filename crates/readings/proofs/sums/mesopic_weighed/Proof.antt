@@ -36,8 +36,8 @@ day-is c = rw (laid c .lay .ensures) at (c .before .before .weigh .ensures) ∙ 
 night-is : (c : tie.After-weigh2) → let t = begin (laid c) .args in short (c .weigh2 .result) ≡ weighed VPrime (t .first) (t .step) (t .part .now)
 night-is c = rw (laid c .lay .ensures) at (c .weigh2 .ensures) ∙ row-weighed _ _ _ _
 
-mixed-requires : tie.Need-mixed-requires
-mixed-requires c κs =
+at-setting-requires : tie.Need-at-setting-requires
+at-setting-requires c κs =
     let s = begin (laid c) in
     let t = s .args in
     let begun = s .pre .1 in
@@ -46,7 +46,7 @@ mixed-requires c κs =
     (s .pre .0, omega (arith, day-is c, small YBar), omega (arith, night-is c, small VPrime))
 
 returns : tie.Need-returns
-returns c = c .mixed .ensures ∙ rw (day-is (c .before), night-is (c .before))
+returns c = c .at-setting .ensures ∙ rw (day-is (c .before), night-is (c .before))
 
 pub mesopic-weighed-spec : {M : Type 1} → statement M
 mesopic-weighed-spec =
@@ -56,5 +56,5 @@ mesopic-weighed-spec =
     (λ c κs. search needs)
     weigh-requires
     weigh-requires-2
-    mixed-requires
+    at-setting-requires
     returns)

@@ -4,8 +4,8 @@ use native.Mathlib.Nat.{mul-le-mul}
 use native.Mathlib.Omega.{arith}
 use Rattle.exact.specs.Value.{short}
 use borrow.Author.Needs.{needs}
-use Rattle.readings.proofs.sums.mixed.Statement.{statement}
-use Rattle.readings.proofs.sums.mixed.Tie as tie
+use Rattle.readings.proofs.sums.at_setting.Statement.{statement}
+use Rattle.readings.proofs.sums.at_setting.Tie as tie
 
 module _ (s : tie.Start) where
   day-small : short (s .args .day) * s .args .k ≤ 20000000000000000000000 * 1000
@@ -22,7 +22,7 @@ short-times-plus-requires-2 c κs =
     let s = c .before .before in
     omega (arith, c .short-times-plus .ensures, c .before .joined .ensures, day-small s, night-small s)
 
-pub mixed-spec : {M : Type 1} → statement M
-mixed-spec =
+pub at-setting-spec : {M : Type 1} → statement M
+at-setting-spec =
     tie.close
     (tie.spec (λ c. search needs) (λ c κs. search needs) short-times-plus-requires short-times-plus-requires-2 (λ c. search needs))
