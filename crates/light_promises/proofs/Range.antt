@@ -21,7 +21,7 @@ use Rattle.answers.specs.Worked.{xyFrom, onChart}
 use Rattle.answers.specs.Said.{saidReading, saidXyz, saidXy, saidOnChart, saidChart}
 use Rattle.answers.proofs.Values.{xy-unless-dark, xy-most, chart-number}
 use Rattle.curves.specs.Observer.{curvesOf}
-use Rattle.readings.specs.Readings.{efficacyOf, millilux, illuminanceOf, mesopicOf, mesopicSum, mesopicDivisor, xyzOf, xyOf, chartOf, figuresOf}
+use Rattle.readings.specs.Readings.{efficacyOf, millilux, illuminanceOf, mesopicOf, mesopicSum, mesopicMillilux, xyzOf, xyOf, chartOf, figuresOf}
 use Rattle.readings.specs.Figures.{saidFigures}
 use Rattle.readings.proofs.Small.{weighed-most}
 use Rattle.light_promises.specs.Range.{full, Greatest, mesopicGreatest, Coordinates}
@@ -88,7 +88,7 @@ module _ (k : ℕ) where
   abbrev greatestAt : ℕ
   greatestAt = nearest (683000 * (day + night)) (10 ^ 16 * bracket)
 
-  mesopic-most : (a s : ℕ) (xs : List ℕ) → lightCheck a s xs ≡ Fine → nearest (mesopicSum k a s xs) (mesopicDivisor k s) ≤ greatestAt
+  mesopic-most : (a s : ℕ) (xs : List ℕ) → lightCheck a s xs ≡ Fine → mesopicMillilux k a s xs ≤ greatestAt
   mesopic-most a s xs fine =
       let low = on-grid a s xs fine .step-low in
       let most = weighed-most a s xs low (within a s xs fine) in
@@ -97,7 +97,7 @@ module _ (k : ℕ) where
       let all = rw (factor 683000 s day night) at (mul-le-mul-left 683000 (add-le-add by-day by-night)) in
       rw (mul-assoc s (10 ^ 16) bracket) (nearest-scaled s (mesopicSum k a s xs) (683000 * (day + night)) (10 ^ 16 * bracket) low all)
 
-  mesopic-full : (s : ℕ) → isStep s ≡ true → nearest (mesopicSum k 360 s (full 1000000 s)) (mesopicDivisor k s) ≡ greatestAt
+  mesopic-full : (s : ℕ) → isStep s ≡ true → mesopicMillilux k 360 s (full 1000000 s) ≡ greatestAt
   mesopic-full s e =
       rw (
         light-sum (weightOf YBar) s e,

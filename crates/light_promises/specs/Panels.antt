@@ -1,5 +1,5 @@
--- What is promised of panels: X, Y, Z are given, none is above a full white panel's, whose Y is exactly 100000, and the order of
--- reflectances is kept.
+-- What is promised of panels: X, Y, Z are given, and x, y unless dark; none of X, Y, Z is above a full white panel's, whose Y is
+-- exactly 100000; and the order of reflectances is kept.
 use mathlib.Core.Path.{_≡_}
 use mathlib.Core.Bool.{true, cond}
 use mathlib.Core.List.{List, [], _∷_}

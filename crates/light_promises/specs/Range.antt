@@ -7,19 +7,19 @@ use lib.ListN.{getD, replicate}
 use Rattle.grid.specs.declared.Check.the-variants.{Fine}
 use Rattle.grid.specs.Check.{Within, isObserver, isStep, lightCheck}
 use Rattle.grid.specs.Said.{Said, value, given}
-use Rattle.mixing.specs.Nearest.{nearest}
 use Rattle.mixing.specs.Sum.{total}
 use Rattle.spectrum.specs.Line.{W}
 use Rattle.answers.specs.Said.{saidReading, saidXyz, saidXy, saidChart}
-use Rattle.readings.specs.Readings.{photopicOf, scotopicOf, photopic10Of, mesopicSum, mesopicDivisor, mesopicOf, xyzOf, xyOf, chartOf, figuresOf}
+use Rattle.readings.specs.Readings.{photopicOf, scotopicOf, photopic10Of, mesopicMillilux, mesopicOf, xyzOf, xyOf, chartOf, figuresOf}
 use Rattle.readings.specs.Figures.{saidFigures}
 use Rattle.light_promises.specs.Lights.{Answer, IsDark}
 
--- the limit at each step from 360 to 830
+-- a row at its limit, from 360 to 830 at any step
 abbrev pub full : ℕ → ℕ → List ℕ
 full limit s = replicate (470 / s + 1) limit
 
--- every accepted light has this answer, none of its values is above these, and a light of 1,000,000 at every step has these
+-- every accepted light has this answer, none of its values is above these, and the light of 1,000,000 from 360 to 830 has just
+-- these, whatever the step
 pub record Greatest (answer : Answer) (values : List ℕ) : Type 0 where
   pub is-given : (a s : ℕ) (xs : List ℕ) → lightCheck a s xs ≡ Fine → answer a s xs .number ≡ 0
   pub at-most : (a s : ℕ) (xs : List ℕ) → lightCheck a s xs ≡ Fine → (i : ℕ) → value (answer a s xs) i ≤ getD values i 0
@@ -27,7 +27,7 @@ pub record Greatest (answer : Answer) (values : List ℕ) : Type 0 where
 
 -- the mesopic reading at k of that light, at step 1
 abbrev pub mesopicGreatest : ℕ → ℕ
-mesopicGreatest k = nearest (mesopicSum k 360 1 (full 1000000 1)) (mesopicDivisor k 1)
+mesopicGreatest k = mesopicMillilux k 360 1 (full 1000000 1)
 
 -- given, unless it is refused as dark
 abbrev pub GivenUnlessDark : Said → Type 0

@@ -70,10 +70,13 @@ mesopicSum k a s xs = 683000 * mesopicWeighed k a s xs
 abbrev pub mesopicDivisor : ℕ → ℕ → ℕ
 mesopicDivisor k s = s * 10 ^ 16 * (1000 * k + 402 * (1000 - k))
 
+-- in millilux: the nearest of the one over the other
+abbrev pub mesopicMillilux : ℕ → ℕ → ℕ → List ℕ → ℕ
+mesopicMillilux k a s xs = nearest (mesopicSum k a s xs) (mesopicDivisor k s)
+
 -- the mesopic reading at k
 unfoldable pub mesopicOf : ℕ → ℕ → ℕ → List ℕ → Reading
-mesopicOf k a s xs =
-    unless (mesopicCheck k a s xs) Reading.Refused (Reading.Value (nearest (mesopicSum k a s xs) (mesopicDivisor k s)))
+mesopicOf k a s xs = unless (mesopicCheck k a s xs) Reading.Refused (Reading.Value (mesopicMillilux k a s xs))
 
 -- OBSERVER: neither 2 nor 10
 abbrev pub colourCheck : ℕ → ℕ → ℕ → List ℕ → Check

@@ -18,11 +18,10 @@ use spectrum::line::begin_at_360;
 use tables::Curve;
 ghost use mathlib.Core.Path.{_≡_};
 ghost use Prim.Native.Nat.{_*_, _^_, _≤_};
-ghost use Rattle.mixing.specs.Nearest.{nearest as nearestOf};
 ghost use Rattle.exact.specs.Value.{short};
 ghost use Rattle.grid.specs.declared.Check.the-variants.{Fine};
 ghost use Rattle.grid.specs.Check.{lightCheck};
-ghost use Rattle.readings.specs.Readings.{efficacyOf, illuminanceOf, photopicOf, scotopicOf, photopic10Of, mesopicOf, mesopicSum, mesopicDivisor};
+ghost use Rattle.readings.specs.Readings.{efficacyOf, illuminanceOf, photopicOf, scotopicOf, photopic10Of, mesopicOf, mesopicMillilux};
 
 // Photopic illuminance in millilux.
 pub fn photopic(start: u32, step: u32, samples: &[u32]) -> Reading
@@ -102,7 +101,7 @@ pub fn mesopic(k: u32, start: u32, step: u32, samples: &[u32]) -> Reading
 
 fn mesopic_of_light(k: u32, start: u32, step: u32, samples: &[u32]) -> u32
     requires { ⌜ (k ≤ 1000) × (lightCheck start step (now samples) ≡ Fine) ⌝ }
-    ensures { λ r. ⌜ r ≡ nearestOf (mesopicSum k start step (now (samples .entry))) (mesopicDivisor k step) ⌝ }
+    ensures { λ r. ⌜ r ≡ mesopicMillilux k start step (now (samples .entry)) ⌝ }
 {
     let begin = begin_at_360(start, step);
     let j = begin.place;
