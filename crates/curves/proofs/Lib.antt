@@ -1,6 +1,5 @@
 -- Laws of weighted rows.
 pub mod Sums
-pub mod Filled
 pub mod Rows
 pub mod ByCurve
 pub mod Product

@@ -1,4 +1,5 @@
--- Laws of the checks.
+-- Laws of the checks, and of rows that are filled.
 pub mod Limit
 pub mod Accepted
 pub mod Light
+pub mod Filled

@@ -2,3 +2,4 @@
 pub mod Refusals
 pub mod Check
 pub mod Said
+pub mod Filled

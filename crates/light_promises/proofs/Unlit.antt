@@ -1,22 +1,24 @@
 -- Where no light meets a curve's weights, its sum is 0: the illuminances are 0, the coordinates dark.
 use mathlib.Core.Path.{_≡_, refl}
-use mathlib.Core.Bool.{Bool, true, false, cond}
+use mathlib.Core.Bool.{true}
 use mathlib.Core.List.{List}
-use Prim.Native.Nat.{ℕ, zero, suc, _+_, _*_, _-_, _/_, _%_, _≤_, zero-le}
-use native.Mathlib.Nat.{mul-zero, add-zero}
+use Prim.Native.Nat.{ℕ, zero, suc, _+_, _*_, _-_, _≤_, zero-le}
+use native.Mathlib.Nat.{mul-zero}
 use borrow.Author.Tests.{le-leb}
-use lib.ListN.{getD, replicate, length, length-replicate}
+use lib.ListN.{getD, replicate, length-replicate}
 use Rattle.grid.specs.Refusals.{SAMPLE, DARK}
 use Rattle.grid.specs.declared.Check.the-variants.{Fine}
 use Rattle.grid.specs.Check.{refusal, isObserver, gridCheck, samplesCheck, lightCheck}
 use Rattle.grid.proofs.Limit.{within-fine}
 use Rattle.mixing.specs.Sum.{weighted}
+use Rattle.mixing.proofs.Mixture.{linear-zeros}
 use Rattle.mixing.proofs.Sum.{total-none}
 use Rattle.mixing.proofs.Nearest.{nearest-none}
 use Rattle.tables.specs.declared.Curve.{Curve}
 use Rattle.tables.specs.declared.Curve.the-variants.{YBar, VPrime}
 use Rattle.tables.specs.Curves.{weightOf}
-use Rattle.spectrum.specs.Line.{lineAt, isMeasured, endRule, T, W}
+use Rattle.spectrum.specs.Line.{T, W}
+use Rattle.spectrum.proofs.Measured.{T-linear}
 use Rattle.answers.specs.declared.OnChart.{OnChart}
 use Rattle.answers.specs.declared.Reading.{Reading}
 use Rattle.answers.specs.declared.XyzAnswer.{XyzAnswer}
@@ -40,14 +42,7 @@ zeros-accepted a s n fine =
     rw (length-replicate {A = ℕ} n 0, fine) samples
 
 pub zeros : (c : Curve) (a s n : ℕ) → Unlit c a s (replicate n 0)
-unfolding T endRule lineAt
-zeros c a s n k = rw (no-light (isMeasured a s (length {A = ℕ} (replicate n 0)) (360 + k)) (360 + k - a)) (mul-zero (weightOf c k))
-  where
-    no-light :
-        (b : Bool) (e : ℕ) →
-        cond b ((s - e % s) * getD (replicate n 0) (e / s) 0 + e % s * getD (replicate n 0) (e / s + 1) 0) 0 ≡ 0
-    no-light true e = rw (getD-zeros n (e / s), getD-zeros n (e / s + 1)) (simp (mul-zero, add-zero))
-    no-light false e = refl
+zeros c a s n k = rw (linear-zeros n (λ xs. T a s xs (360 + k)) (T-linear n a s (360 + k))) (mul-zero (weightOf c k))
 
 module _ (a s : ℕ) (xs : List ℕ) (fine : lightCheck a s xs ≡ Fine) where
   no-sum : (c : Curve) → Unlit c a s xs → weighed c a s xs ≡ 0

@@ -1,5 +1,6 @@
 -- Laws of mixtures: lengths, places, zeros, and how linear sums are made of linear sums.
 use mathlib.Core.Path.{_≡_, refl, _∙_, sym, ap, ap₂}
+use mathlib.Core.Bool.{Bool, true, false, cond}
 use mathlib.Core.List.{List, [], _∷_}
 use Prim.Native.Nat.{ℕ, zero, suc, _+_, _*_, _-_, _≤_}
 use native.Mathlib.Nat.{mul-add, add-zero}
@@ -87,6 +88,11 @@ module _ (n : ℕ) where
   linear-times c F f = record {
     adds = λ xs ys p q. ap (λ (x : ℕ). c * x) (f .adds xs ys p q) ∙ mul-add c (F xs) (F ys);
   }
+
+  -- one of two, by a test that the samples don't tell
+  pub linear-cond : (b : Bool) (F G : List ℕ → ℕ) → Linear n F → Linear n G → Linear n (λ xs. cond b (F xs) (G xs))
+  linear-cond true F G f g = f
+  linear-cond false F G f g = g
 
   -- a weighted sum over a line that is linear at each place
   pub linear-weighted :

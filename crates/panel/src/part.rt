@@ -3,7 +3,6 @@ use crate::reflectances::widen;
 use curves::lit::lit_sums;
 use curves::weigh::Sums;
 use spectrum::line::lay;
-use spectrum::line::unmeasured;
 use tables::Illuminant;
 ghost use mathlib.Core.Path.{_≡_};
 ghost use Rattle.spectrum.specs.Begin.{Begun};
@@ -18,7 +17,7 @@ pub fn part_sums(observer: u32, illuminant: u32, first: u32, step: u32, part: &[
     let count = part.len();
     let mut wide = [0u32; 531];
     widen(part, &mut wide);
-    let mut row = unmeasured();
+    let mut row = [0u64; 471];
     lay(first, step, &wide[..count], &mut row);
     lit_sums(observer, illuminant_of(illuminant), &row)
 }

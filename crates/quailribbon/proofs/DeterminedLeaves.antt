@@ -1,11 +1,8 @@
 -- The open functions between crates are determined too: two results that a contract allows for the same arguments are
 -- equal. `Determined` shows it of the functions that face callers.
 use mathlib.Core.Path.{_≡_, refl}
-use Prim.Native.Nat.{ℕ, _^_, _<_}
+use Prim.Native.Nat.{_^_, _<_}
 use native.Mathlib.Omega.{arith}
-use mathlib.Core.List.{List, []}
-use lib.ListN.{length, getD}
-use lib.Seq.{ext-getD}
 use Rattle.exact.specs.declared.digits.Short.{Short}
 use Rattle.exact.specs.declared.digits.Long.{Long}
 use Rattle.exact.specs.Value.{short, long}
@@ -36,7 +33,6 @@ use Rattle.curves.proofs.weigh.weigh.Reads as weigh
 use Rattle.curves.proofs.weigh.row_sums.Reads as row-sums
 use Rattle.curves.proofs.lit.lit_sums.Reads as lit-sums
 use Rattle.spectrum.proofs.line.begin_at_360.Reads as begin-at-360
-use Rattle.spectrum.proofs.line.unmeasured.Reads as unmeasured
 use Rattle.spectrum.proofs.line.lay.Reads as lay
 use Rattle.answers.proofs.work.xyz_from.Reads as xyz-from
 use Rattle.answers.proofs.work.xy_from.Reads as xy-from
@@ -82,11 +78,6 @@ same-sums {r} {q} d g ex ey ez =
     let y : r .y ≡ q .y = same-short (d .y) (g .y) ey in
     let z : r .z ≡ q .z = same-short (d .z) (g .z) ez in
     λ i. record { x = x i; y = y i; z = z i }
-
-same-row : {xs ys : List ℕ} (place : ℕ → ℕ) → length xs ≡ 471 → length ys ≡ 471
-    → ((k : ℕ) → k < 471 → getD xs k 0 ≡ place k) → ((k : ℕ) → k < 471 → getD ys k 0 ≡ place k) → xs ≡ ys
-same-row {xs} {ys} place m n p q =
-    ext-getD 0 xs ys (same m n) (λ k b. let h : k < 471 = omega arith in same (p k h) (q k h))
 
 -- exact
 
@@ -177,9 +168,6 @@ one-begin-at-360 k a r q e f p s =
     let place = same (p .place) (s .place) in
     let wavelength = same (p .wavelength) (s .wavelength) in
     λ i. record { place = place i; wavelength = wavelength i }
-
-one-unmeasured : OneResult unmeasured.Post
-one-unmeasured k a r q e f p s = same-row _ (p .long) (s .long) (p .ends 0 0 []) (s .ends 0 0 [])
 
 one-lay : OneResult lay.Post
 one-lay k a r q e f p s = refl

@@ -7,7 +7,6 @@ use exact::digits::Short;
 use exact::digits::joined;
 use exact::digits::short_times_plus;
 use spectrum::line::lay;
-use spectrum::line::unmeasured;
 use tables::Curve;
 ghost use mathlib.Core.Path.{_≡_};
 ghost use Prim.Native.Nat.{_+_, _*_, _-_, _≤_};
@@ -21,7 +20,7 @@ pub fn weighed(curve: Curve, first: u32, step: u32, part: &[u32]) -> Short
     requires { ⌜ Begun 1000000 first step (now part) ⌝ }
     ensures { λ r. ⌜ short r ≡ weighedBy curve first step (now (part .entry)) ⌝ }
 {
-    let mut row = unmeasured();
+    let mut row = [0u64; 471];
     lay(first, step, part, &mut row);
     weigh(curve, &row)
 }
@@ -31,7 +30,7 @@ pub fn mesopic_weighed(k: u32, first: u32, step: u32, part: &[u32]) -> Short
     requires { ⌜ (k ≤ 1000) × Begun 1000000 first step (now part) ⌝ }
     ensures { λ r. ⌜ short r ≡ mesopicWeighed k first step (now (part .entry)) ⌝ }
 {
-    let mut row = unmeasured();
+    let mut row = [0u64; 471];
     lay(first, step, part, &mut row);
     at_setting(k, weigh(Curve::YBar, &row), weigh(Curve::VPrime, &row))
 }
@@ -49,7 +48,7 @@ pub fn colour_sums(observer: u32, first: u32, step: u32, part: &[u32]) -> Sums
     requires { ⌜ Begun 1000000 first step (now part) ⌝ }
     ensures { λ r. ⌜ LightSums observer first step (now (part .entry)) r ⌝ }
 {
-    let mut row = unmeasured();
+    let mut row = [0u64; 471];
     lay(first, step, part, &mut row);
     row_sums(observer, &row)
 }
@@ -64,7 +63,7 @@ pub fn figure_sums(first: u32, step: u32, part: &[u32]) -> FigureSums
     requires { ⌜ Begun 1000000 first step (now part) ⌝ }
     ensures { λ r. ⌜ FigureSumsOf first step (now (part .entry)) r ⌝ }
 {
-    let mut row = unmeasured();
+    let mut row = [0u64; 471];
     lay(first, step, part, &mut row);
     FigureSums {
         colour: row_sums(2, &row),

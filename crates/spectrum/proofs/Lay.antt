@@ -5,15 +5,15 @@ use mathlib.Core.Bool.{Bool, true, false}
 use Prim.Native.Nat.{ℕ, zero, suc, _+_, _*_, _-_, _/_, _≤_, _<_}
 use native.Mathlib.Nat.{div-mul-le-self, lt-div-mul-add, lt-of-mul-lt-mul-left, zero-div, mul-zero, add-zero}
 use native.Mathlib.Omega.{arith}
-use borrow.Author.Count.{below-more}
-use borrow.Author.Tests.{ltb-true, ltb-false, leb-true, leb-false}
-use lib.ListN.{length, getD, set, drop, length-set, length-drop}
-use lib.Seq.{ext-getD, getD-set-same, getD-set-other}
-use lib.Dec.{leb, ltb}
+use borrow.Author.Tests.{leb-true, leb-false}
+use lib.ListN.{length, getD, drop, length-drop}
+use lib.Seq.{ext-getD}
+use lib.Dec.{leb}
 use Rattle.grid.specs.Check.{lastOf}
 use Rattle.grid.proofs.Accepted.{OnGrid}
 use Rattle.spectrum.specs.Line.{lineAt, T}
-use Rattle.spectrum.specs.Lay.{listed, rowOf, Part, Unmeasured, LaidTo}
+use Rattle.spectrum.specs.Lay.{listed, rowOf, Part, AtEnd, LaidTo}
+use Rattle.spectrum.proofs.EndRule.{end-below, end-above}
 use Rattle.spectrum.proofs.Measured.{line-at, T-measured, T-below, T-above, T-from}
 
 pub length-listed : (n : ℕ) (f : ℕ → ℕ) → length (listed n f) ≡ n
@@ -28,14 +28,6 @@ getD-listed (suc n) f zero h = refl
 getD-listed (suc n) f (suc k) h = getD-listed n (λ j. f (suc j)) k (omega arith)
 
 module _ (a s : ℕ) (xs : List ℕ) where
-  -- below the first wavelength there is the end rule
-  pub lay-none : (row : List ℕ) → a ≤ 380 → Unmeasured row → LaidTo a s xs row (a - 360)
-  lay-none row b u = record {
-    long = u .long;
-    laid = λ q h. u .ends a s xs q (omega arith) ∙ sym (T-below a s xs (360 + q) (omega arith));
-    rest = λ q h l. u .ends a s xs q l;
-  }
-
   -- the place that is d nanometres above sample i
   pub walk-at :
       (i d k : ℕ) → a + s * i + d ≡ 360 + k → d < s → 360 + k ≤ lastOf a s (length xs) →
@@ -44,30 +36,21 @@ module _ (a s : ℕ) (xs : List ℕ) where
       let above : 360 + k - a ≡ s * i + d = omega arith in
       sym (T-measured a s xs (360 + k) (omega arith) l ∙ (ap (lineAt s xs) above ∙ line-at s xs i d h))
 
-  -- one place more
-  pub lay-more :
-      (row : List ℕ) (k v : ℕ) → LaidTo a s xs row k → k < 471 → v ≡ T a s xs (360 + k) → LaidTo a s xs (set row k v) (k + 1)
-  lay-more row k v l h e = record {
-    long = length-set row k v ∙ l .long;
-    laid = below-more (λ q. getD (set row k v) q 0 ≡ T a s xs (360 + q)) k
-        (λ q p. getD-set-other row k q v 0 (omega arith) ∙ l .laid q p)
-        (getD-set-same row k v 0 (let long = l .long in omega arith) ∙ e);
-    rest = λ q p b. getD-set-other row k q v 0 (omega arith) ∙ l .rest q (omega arith) b;
-  }
+  -- below the measured range, and above it
+  pub low-end : (high : ℕ) → high ≤ a - 360 → AtEnd a s xs 0 high
+  low-end high h q p l = T-below a s xs (360 + q) (omega arith) ∙ end-below a s xs (360 + q) 360 (omega arith) (omega arith)
 
-  -- past the last wavelength there is the end rule, so the row is whole
-  pub lay-all : (row : List ℕ) (k : ℕ) → LaidTo a s xs row k → lastOf a s (length xs) < 360 + k → row ≡ rowOf a s xs
+  pub high-end : (low high : ℕ) → lastOf a s (length xs) < 360 + low → AtEnd a s xs low high
+  high-end low high h q p l =
+      T-above a s xs (360 + q) (omega arith) ∙ end-above a s xs (360 + q) (360 + low) (omega arith) (omega arith)
+
+  pub lay-all : (row : List ℕ) → LaidTo a s xs row 471 → row ≡ rowOf a s xs
   unfolding rowOf
-  lay-all row k l h =
+  lay-all row l =
       let long = l .long in
-      ext-getD 0 row (listed 471 (λ q. T a s xs (360 + q))) (l .long ∙ sym (length-listed 471 (λ q. T a s xs (360 + q))))
-      (λ q p. go q (omega arith) (ltb q k) refl ∙ sym (getD-listed 471 (λ j. T a s xs (360 + j)) q (omega arith)))
-    where
-      go : (q : ℕ) → q < 471 → (b : Bool) → ltb q k ≡ b → getD row q 0 ≡ T a s xs (360 + q)
-      go q p true e = l .laid q (ltb-true q k e)
-      go q p false e =
-          let past : k ≤ q = ltb-false q k e in
-          l .rest q past p ∙ sym (T-above a s xs (360 + q) (omega arith))
+      let f : ℕ → ℕ = λ q. T a s xs (360 + q) in
+      ext-getD 0 row (listed 471 f) (long ∙ sym (length-listed 471 f))
+      (λ q p. let h : q < 471 = omega arith in l .filled q h ∙ sym (getD-listed 471 f q h))
 
 listed-ext : (n : ℕ) (f g : ℕ → ℕ) → ((k : ℕ) → k < n → f k ≡ g k) → listed n f ≡ listed n g
 unfolding listed

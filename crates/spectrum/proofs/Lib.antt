@@ -1,4 +1,5 @@
 -- Laws of spectra.
+pub mod EndRule
 pub mod Measured
 pub mod Lay
 pub mod Light

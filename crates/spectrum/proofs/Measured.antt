@@ -2,7 +2,7 @@
 use mathlib.Core.Path.{_≡_, refl, _∙_, sym, ap}
 use mathlib.Core.Bool.{Bool, true, false, cond, and-false}
 use mathlib.Core.List.{List}
-use Prim.Native.Nat.{ℕ, _+_, _*_, _-_, _/_, _%_, _≤_, _<_, zero-le}
+use Prim.Native.Nat.{ℕ, _+_, _*_, _-_, _/_, _%_, _≤_, _<_}
 use native.Mathlib.Nat.{mul-add-div, mul-add-mod-self-left, div-eq-of-lt, mod-lt, mod-eq-of-lt, add-zero, add-assoc, mul-le-mul-left}
 use native.Mathlib.Omega.{arith}
 use borrow.Author.Tests.{le-leb, lt-leb}
@@ -10,8 +10,9 @@ use lib.ListN.{length, getD, drop, length-drop}
 use lib.Seq.{getD-drop}
 use Rattle.grid.specs.Check.{lastOf, Within}
 use Rattle.mixing.specs.Mixture.{mix, Linear}
-use Rattle.mixing.proofs.Mixture.{getD-mix, length-mix, linear-weighted}
+use Rattle.mixing.proofs.Mixture.{getD-mix, length-mix, linear-cond, linear-weighted}
 use Rattle.spectrum.specs.Line.{lineAt, isMeasured, endRule, T, W}
+use Rattle.spectrum.proofs.EndRule.{end-bound, end-from, end-linear}
 
 -- d nanometres above sample i
 pub line-at : (s : ℕ) (xs : List ℕ) (i d : ℕ) → d < s → lineAt s xs (s * i + d) ≡ (s - d) * getD xs i 0 + d * getD xs (i + 1) 0
@@ -46,13 +47,13 @@ module _ (a s : ℕ) (xs : List ℕ) (w : ℕ) where
 -- T of the samples from j on, where w is not below sample j
 pub T-from :
     (a s : ℕ) (xs : List ℕ) (j w : ℕ) → 0 < s → j < length xs → a + s * j ≤ w → T a s xs w ≡ T (a + s * j) s (drop j xs) w
-unfolding T endRule
+unfolding T
 T-from a s xs j w pos h l =
     let m : s * (length (drop j xs) - 1 + j) ≡ s * (length xs - 1) = ap (λ (n : ℕ). s * n) (simp length-drop (omega arith)) in
     let e : lastOf (a + s * j) s (length (drop j xs)) ≡ lastOf a s (length xs) = omega arith in
     let f : lineAt s xs (w - a) ≡ lineAt s (drop j xs) (w - (a + s * j)) =
     ap (lineAt s xs) (omega arith) ∙ line-from s xs j (w - (a + s * j)) pos in
-    rw (le-leb a w (omega arith), le-leb (a + s * j) w l, e, f)
+    rw (le-leb a w (omega arith), le-leb (a + s * j) w l, e, f, end-from a s xs j w h l)
 
 module _ (a s limit : ℕ) (xs : List ℕ) (within : Within limit xs) where
   -- T is at most s times the largest sample
@@ -66,12 +67,12 @@ module _ (a s limit : ℕ) (xs : List ℕ) (within : Within limit xs) where
       omega arith
 
   pub T-bound : (w : ℕ) → 0 < s → T a s xs w ≤ s * limit
-  unfolding T endRule
+  unfolding T
   T-bound w pos = go (isMeasured a s (length xs) w)
     where
-      go : (b : Bool) → cond b (lineAt s xs (w - a)) 0 ≤ s * limit
+      go : (b : Bool) → cond b (lineAt s xs (w - a)) (endRule a s xs w) ≤ s * limit
       go true = line-bound (w - a) pos
-      go false = zero-le
+      go false = end-bound a s xs limit w within
 
 -- mixed spectra have mixed lines
 line-linear : (n s e : ℕ) → Linear n (λ xs. lineAt s xs e)
@@ -84,19 +85,14 @@ line-linear n s e = record {
       rw (i, j) (omega arith);
 }
 
-T-linear : (n a s w : ℕ) → Linear n (λ xs. T a s xs w)
-unfolding T endRule
+pub T-linear : (n a s w : ℕ) → Linear n (λ xs. T a s xs w)
+unfolding T
 T-linear n a s w = record {
   adds = λ xs ys p q.
       rw (length-mix n xs ys p q, p, q)
-      (go xs ys (isMeasured a s n w) (line-linear n s (w - a) .adds xs ys p q));
+      (linear-cond n (isMeasured a s n w) (λ zs. lineAt s zs (w - a)) (λ zs. endRule a s zs w) (line-linear n s (w - a)) (end-linear n a s w)
+      .adds xs ys p q);
 }
-  where
-    go :
-        (xs ys : List ℕ) (b : Bool) → lineAt s (mix xs ys) (w - a) ≡ lineAt s xs (w - a) + lineAt s ys (w - a) →
-        cond b (lineAt s (mix xs ys) (w - a)) 0 ≡ cond b (lineAt s xs (w - a)) 0 + cond b (lineAt s ys (w - a)) 0
-    go xs ys true e = e
-    go xs ys false e = refl
 
 -- W is linear in the samples, for any weights
 pub W-linear : (n : ℕ) (v : ℕ → ℕ) (a s : ℕ) → Linear n (λ xs. W v a s xs)

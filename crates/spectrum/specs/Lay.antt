@@ -4,8 +4,8 @@ use mathlib.Core.Path.{_≡_}
 use mathlib.Core.Bool.{true}
 use mathlib.Core.List.{List, [], _∷_}
 use Prim.Native.Nat.{ℕ, zero, suc, _+_, _*_, _-_, _≤_, _<_}
-use lib.ListN.{length, getD}
 use Rattle.grid.specs.Check.{isStep}
+use Rattle.grid.specs.Filled.{FilledTo}
 use Rattle.spectrum.specs.Line.{endRule, T}
 
 -- the first n values of f
@@ -28,13 +28,10 @@ pub record Part (a s n : ℕ) : Type 0 where
   pub last-low : 780 ≤ a + s * (n - 1)
   pub last-high : a + s * (n - 1) ≤ 830
 
--- a row of 471 places that has the end rule everywhere
-pub record Unmeasured (row : List ℕ) : Type 0 where
-  pub long : length row ≡ 471
-  pub ends : (a s : ℕ) (xs : List ℕ) (k : ℕ) → k < 471 → getD row k 0 ≡ endRule a s xs (360 + k)
+-- at the places from low to below high T is the end rule's, and the same
+abbrev pub AtEnd : ℕ → ℕ → List ℕ → ℕ → ℕ → Type 0
+AtEnd a s xs low high = (q : ℕ) → low ≤ q → q < high → T a s xs (360 + q) ≡ endRule a s xs (360 + low)
 
--- the places below k hold T, and the others the end rule
-pub record LaidTo (a s : ℕ) (xs row : List ℕ) (k : ℕ) : Type 0 where
-  pub long : length row ≡ 471
-  pub laid : (q : ℕ) → q < k → getD row q 0 ≡ T a s xs (360 + q)
-  pub rest : (q : ℕ) → k ≤ q → q < 471 → getD row q 0 ≡ endRule a s xs (360 + q)
+-- of a row of 471 places those below k hold T
+abbrev pub LaidTo : ℕ → ℕ → List ℕ → List ℕ → ℕ → Type 0
+LaidTo a s xs row k = FilledTo 471 (λ q. T a s xs (360 + q)) row k

@@ -2,12 +2,13 @@
 ghost use mathlib.Core.Path.{_≡_};
 ghost use Prim.Native.Nat.{_+_, _*_, _-_, _^_, _<_, _≤_};
 ghost use lib.ListN.{length};
-ghost use Rattle.spectrum.specs.Lay.{rowOf, Part, Unmeasured, LaidTo};
+ghost use Rattle.grid.specs.Check.{lastOf};
+ghost use Rattle.spectrum.specs.Lay.{Part, LaidTo};
 
 // At step 1 the line is the samples.
 pub fn copy(first: u32, part: &[u32], row: &mut [u64; 471])
-    requires { ⌜ Part first 1 (length (now part)) × Unmeasured (now row) ⌝ }
-    ensures { λ _. ⌜ now (row .exit) ≡ rowOf first 1 (now (part .entry)) ⌝ }
+    requires { ⌜ Part first 1 (length (now part)) × LaidTo first 1 (now part) (now row) (first - 360) ⌝ }
+    ensures { λ _. ⌜ LaidTo first 1 (now (part .entry)) (now (row .exit)) (lastOf first 1 (length (now (part .entry))) - 360 + 1) ⌝ }
 {
     let place = place_of(first);
     for i in 0..part.len() {
@@ -17,8 +18,8 @@ pub fn copy(first: u32, part: &[u32], row: &mut [u64; 471])
 
 // First from 360 nm, which may be above the first sample, to the next sample; then from each sample to the next.
 pub fn walk(first: u32, step: u32, part: &[u32], row: &mut [u64; 471])
-    requires { ⌜ Part first step (length (now part)) × Unmeasured (now row) ⌝ }
-    ensures { λ _. ⌜ now (row .exit) ≡ rowOf first step (now (part .entry)) ⌝ }
+    requires { ⌜ Part first step (length (now part)) × LaidTo first step (now part) (now row) (first - 360) ⌝ }
+    ensures { λ _. ⌜ LaidTo first step (now (part .entry)) (now (row .exit)) (lastOf first step (length (now (part .entry))) - 360 + 1) ⌝ }
 {
     let last = part.len() - 1;
     let place = place_of(first);
@@ -58,7 +59,7 @@ fn wide(x: u32) -> u64
 }
 
 // The place of a wavelength in the row; 0 where it is below 360.
-fn place_of(wavelength: u32) -> usize
+pub fn place_of(wavelength: u32) -> usize
     ensures { λ r. ⌜ r ≡ wavelength - 360 ⌝ }
 {
     if wavelength < 360 {

@@ -5,7 +5,8 @@ use Prim.Native.Nat.{ℕ, _*_, _-_, _/_, _%_, _^_, _≤_}
 use native.Mathlib.Omega.{arith}
 use borrow.Author.Needs.{needs}
 use lib.ListN.{getD}
-use Rattle.curves.proofs.Filled.{FilledTo, fill-more, filled-within}
+use Rattle.grid.specs.Filled.{FilledTo}
+use Rattle.grid.proofs.Filled.{fill-none, fill-more, filled-within}
 use Rattle.curves.proofs.Product.{product, product-is, product-small}
 use Rattle.curves.proofs.lit.split.Statement.{statement}
 use Rattle.curves.proofs.lit.split.Tie as tie
@@ -20,11 +21,7 @@ abbrev μ-loop : tie.MeasureT-loop
 μ-loop powers row high₀ low₀ k₀ high low k = 471 - k
 
 loop-holds : tie.Need-loop-holds Inv-loop μ-loop
-loop-holds c = (
-  omega arith,
-  record { long = c .pre .0; filled = λ q h. absurd (omega arith) },
-  record { long = c .pre .1; filled = λ q h. absurd (omega arith) },
-)
+loop-holds c = (omega arith, fill-none 471 _ _ (c .pre .0), fill-none 471 _ _ (c .pre .1))
 
 cast-product : tie.Need-cast-product Inv-loop μ-loop
 cast-product c = omega (arith, c .before .before .before .pre .2 (c .before .before .loop .k))

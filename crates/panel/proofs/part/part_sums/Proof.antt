@@ -20,19 +20,18 @@ widen-requires : tie.Need-widen-requires
 widen-requires c κs = (few (c .before .before), refl)
 
 array-share-prefix-wide : tie.Need-array-share-prefix-wide
-array-share-prefix-wide c = rw (c .before .widen .ensures .long) (few (begin (c .before)))
+array-share-prefix-wide c = rw (c .widen .ensures .long) (few (begin c))
 
 slice-aggregate-lay : tie.Need-slice-aggregate-lay
-slice-aggregate-lay c = ap length (sym (c .before .before .widen .ensures .first))
+slice-aggregate-lay c = ap length (sym (c .before .widen .ensures .first))
 
 lay-requires : tie.Need-lay-requires
 lay-requires c κs =
-    let plain = c .before .before in
-    let wide = plain .before in
-    (rw (wide .widen .ensures .first) (begin wide .pre .part), plain .unmeasured .ensures)
+    let wide = c .before .before in
+    (rw (wide .widen .ensures .first) (begin wide .pre .part), refl)
 
 abbrev widened : tie.After-lay → tie.After-widen
-widened c = c .before .before .before .before
+widened c = c .before .before .before
 
 lit-sums-requires : tie.Need-lit-sums-requires
 lit-sums-requires c κs =
@@ -53,7 +52,6 @@ part-sums-spec =
     tie.close
     (tie.spec
     widen-requires
-    (λ c κs. search needs)
     array-share-prefix-wide
     slice-aggregate-lay
     lay-requires

@@ -5,7 +5,8 @@ use borrow.Author.Needs.{needs}
 use native.Mathlib.Omega.{arith}
 use lib.ListN.{length, getD, take}
 use lib.Seq.{ext-getD, getD-take, length-take-le}
-use Rattle.curves.proofs.Filled.{FilledTo, fill-more}
+use Rattle.grid.specs.Filled.{FilledTo}
+use Rattle.grid.proofs.Filled.{fill-none, fill-more}
 use Rattle.panel.proofs.reflectances.widen.Statement.{statement}
 use Rattle.panel.proofs.reflectances.widen.Tie as tie
 
@@ -16,7 +17,7 @@ abbrev μ-loop : tie.MeasureT-loop
 μ-loop reflectances wide₀ k₀ k-end wide k = length reflectances - k
 
 loop-holds : tie.Need-loop-holds Inv-loop μ-loop
-loop-holds c = (omega arith, record { long = c .pre .1; filled = λ q h. absurd (omega arith) })
+loop-holds c = (omega arith, fill-none 531 _ _ (c .pre .1))
 
 cast-wide : tie.Need-cast-wide Inv-loop μ-loop
 cast-wide c = omega (arith, c .shared-slice-known .given (c .before .before .loop .k))

@@ -6,7 +6,7 @@ use Rattle.readings.proofs.sums.colour_sums.Statement.{statement}
 use Rattle.readings.proofs.sums.colour_sums.Tie as tie
 
 abbrev begin : tie.After-lay → tie.Start
-begin c = c .before .before .before .before
+begin c = c .before .before .before
 
 row-sums-requires : tie.Need-row-sums-requires
 row-sums-requires c κs =
@@ -21,4 +21,4 @@ returns c =
     light-sums (t .observer) (t .first) (t .step) (t .part .now) (c .row-sums .result) (rw (row .lay .ensures) at (c .row-sums .ensures))
 
 pub colour-sums-spec : {M : Type 1} → statement M
-colour-sums-spec = tie.close (tie.spec (λ c κs. search needs) (λ c κs. search needs) row-sums-requires returns)
+colour-sums-spec = tie.close (tie.spec (λ c κs. search needs) row-sums-requires returns)

@@ -7,7 +7,7 @@ use Rattle.readings.proofs.sums.figure_sums.Statement.{statement}
 use Rattle.readings.proofs.sums.figure_sums.Tie as tie
 
 abbrev begin : tie.After-lay → tie.Start
-begin c = c .before .before .before .before
+begin c = c .before .before .before
 
 row-sums-requires : tie.Need-row-sums-requires
 row-sums-requires c κs =
@@ -32,4 +32,4 @@ returns c =
     }
 
 pub figure-sums-spec : {M : Type 1} → statement M
-figure-sums-spec = tie.close (tie.spec (λ c κs. search needs) (λ c κs. search needs) row-sums-requires weigh-requires returns)
+figure-sums-spec = tie.close (tie.spec (λ c κs. search needs) row-sums-requires weigh-requires returns)

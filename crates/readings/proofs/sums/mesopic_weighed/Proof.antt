@@ -11,7 +11,7 @@ use Rattle.readings.proofs.sums.mesopic_weighed.Statement.{statement}
 use Rattle.readings.proofs.sums.mesopic_weighed.Tie as tie
 
 abbrev begin : tie.After-lay → tie.Start
-begin c = c .before .before .before .before
+begin c = c .before .before .before
 
 abbrev laid : tie.After-weigh2 → tie.After-lay
 laid c = c .before .before .before .before
@@ -52,7 +52,6 @@ pub mesopic-weighed-spec : {M : Type 1} → statement M
 mesopic-weighed-spec =
     tie.close
     (tie.spec
-    (λ c κs. search needs)
     (λ c κs. search needs)
     weigh-requires
     weigh-requires-2

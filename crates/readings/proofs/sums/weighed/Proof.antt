@@ -6,7 +6,7 @@ use Rattle.readings.proofs.sums.weighed.Statement.{statement}
 use Rattle.readings.proofs.sums.weighed.Tie as tie
 
 abbrev begin : tie.After-lay → tie.Start
-begin c = c .before .before .before .before
+begin c = c .before .before .before
 
 weigh-requires : tie.Need-weigh-requires
 weigh-requires c κs =
@@ -18,4 +18,4 @@ returns : tie.Need-returns
 returns c = c .weigh .ensures ∙ rw (c .before .before .lay .ensures, row-weighed)
 
 pub weighed-spec : {M : Type 1} → statement M
-weighed-spec = tie.close (tie.spec (λ c κs. search needs) (λ c κs. search needs) weigh-requires returns)
+weighed-spec = tie.close (tie.spec (λ c κs. search needs) weigh-requires returns)

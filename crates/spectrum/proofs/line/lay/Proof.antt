@@ -1,60 +1,73 @@
--- At step 1 the samples are copied; at each of the others the line is walked.
-use mathlib.Core.Path.{_≡_, subst}
-use mathlib.Core.Logic.{⊎-elim}
-use Prim.Native.Nat.{ℕ}
+-- The row is laid up to the measured range, through it, and from there to the end.
+use mathlib.Core.Path.{_≡_}
+use Prim.Native.Nat.{_+_, _*_, _-_, _≤_, _<_}
+use native.Mathlib.Nat.{mul-le-mul-right}
+use native.Mathlib.Omega.{arith}
+use borrow.Author.Needs.{needs}
 use lib.ListN.{length}
-use Rattle.grid.proofs.Accepted.{step-cases}
-use Rattle.spectrum.specs.Lay.{Part}
+use Rattle.grid.proofs.Filled.{fill-none}
+use Rattle.spectrum.proofs.Lay.{low-end, high-end, lay-all}
 use Rattle.spectrum.proofs.line.lay.Statement.{statement}
 use Rattle.spectrum.proofs.line.lay.Tie as tie
 
-abbrev begin : tie.After-shared-slice-known → tie.Start
-begin c = c .before
+abbrev begin : tie.After-place-of → tie.Start
+begin c = c .before .before
 
--- a step that is none of the first three is 10
-ten : (c : tie.At-match-rest) → begin (c .before) .args .step ≡ 10
-ten c =
-    let other = c .match .rest in
-    ⊎-elim (λ p. absurd (other .0 .0 .1 p)) (⊎-elim (λ p. absurd (other .0 .1 p)) (⊎-elim (λ p. absurd (other .1 p)) (λ p. p)))
-    (step-cases (begin (c .before) .args .step) (begin (c .before) .pre .0 .is-step))
+-- where the low end is laid
+abbrev low-laid : tie.After-lay-end → tie.After-place-of
+low-laid c = c .before .before
 
--- the part is one at the step of the arm
-at-step : (b : tie.Start) (s : ℕ) → b .args .step ≡ s → Part (b .args .first) s (length (b .args .part .now))
-at-step b s e = subst (λ x. Part (b .args .first) x (length (b .args .part .now))) e (b .pre .0)
+cast-last : tie.Need-cast-last
+cast-last c =
+    let s = c .before in
+    let last = length (s .args .part .now) - 1 in
+    let few : 1 * last ≤ s .args .step * last = mul-le-mul-right last (s .pre .0 .step-low) in
+    omega arith
 
-copy-requires : tie.Need-copy-requires
-copy-requires c κs = let b = begin (c .before .before) in (at-step b 1 (c .before .match .keys1), b .pre .1)
+lay-end-requires : tie.Need-lay-end-requires
+lay-end-requires c κs =
+    let place = c .before .place-of in
+    let s = begin (c .before) in
+    let t = s .args in (
+      omega arith,
+      omega arith,
+      low-end (t .first) (t .step) (t .part .now) (place .result) (omega arith),
+      fill-none 471 _ _ (s .pre .1),
+    )
 
-walk-requires : tie.Need-walk-requires
-walk-requires c κs = let b = begin (c .before .before) in (at-step b 2 (c .before .match .keys2), b .pre .1)
+lay-line-requires : tie.Need-lay-line-requires
+lay-line-requires c κs =
+    let low = low-laid (c .before) in
+    (begin low .pre .0, rw (low .place-of .ensures) at (c .before .lay-end .ensures))
 
-walk-requires-2 : tie.Need-walk-requires-2
-walk-requires-2 c κs = let b = begin (c .before .before) in (at-step b 5 (c .before .match .keys3), b .pre .1)
-
-walk-requires-3 : tie.Need-walk-requires-3
-walk-requires-3 c κs = let b = begin (c .before .before) in (at-step b 10 (ten (c .before)), b .pre .1)
+lay-end-requires-2 : tie.Need-lay-end-requires-2
+lay-end-requires-2 c κs =
+    let place = c .before .place-of2 in
+    let line = c .before .before in
+    let t = begin (low-laid (line .before .before)) .args in (
+      omega arith,
+      omega arith,
+      high-end (t .first) (t .step) (t .part .now) (place .result + 1) 471 (omega arith),
+      rw (place .ensures) (line .lay-line .ensures),
+    )
 
 returns : tie.Need-returns
-returns c = rw (c .before .before .match .keys1) (c .copy .ensures)
-
-returns-2 : tie.Need-returns-2
-returns-2 c = rw (c .before .before .match .keys2) (c .walk .ensures)
-
-returns-3 : tie.Need-returns-3
-returns-3 c = rw (c .before .before .match .keys3) (c .walk2 .ensures)
-
-returns-4 : tie.Need-returns-4
-returns-4 c = rw (ten (c .before .before)) (c .walk3 .ensures)
+returns c =
+    let t = begin (low-laid (c .before .before .before .before .before)) .args in
+    lay-all (t .first) (t .step) (t .part .now) _ (c .lay-end2 .ensures)
 
 pub lay-spec : {M : Type 1} → statement M
 lay-spec =
     tie.close
     (tie.spec
-    copy-requires
-    walk-requires
-    walk-requires-2
-    walk-requires-3
-    returns
-    returns-2
-    returns-3
-    returns-4)
+    (λ c. search needs)
+    cast-last
+    (λ c. search needs)
+    (λ c. search needs)
+    (λ c κs. search needs)
+    lay-end-requires
+    lay-line-requires
+    (λ c κs. search needs)
+    (λ c. search needs)
+    lay-end-requires-2
+    returns)

@@ -5,9 +5,10 @@ use native.Mathlib.Nat.{add-zero, add-assoc}
 use borrow.Author.Needs.{needs}
 use native.Mathlib.Omega.{arith}
 use lib.ListN.{length, getD}
+use Rattle.grid.proofs.Filled.{fill-more}
 use Rattle.spectrum.specs.Line.{T}
 use Rattle.spectrum.specs.Lay.{LaidTo}
-use Rattle.spectrum.proofs.Lay.{lay-none, walk-at, lay-more, lay-all}
+use Rattle.spectrum.proofs.Lay.{walk-at}
 use Rattle.spectrum.proofs.walk.copy.Statement.{statement}
 use Rattle.spectrum.proofs.walk.copy.Tie as tie
 
@@ -22,10 +23,7 @@ begin c = c .before .before
 
 loop-holds : tie.Need-loop-holds Inv-loop μ-loop
 loop-holds c =
-    let s = begin c in (
-      omega arith,
-      rw (add-zero, c .place-of .ensures) (lay-none (s .args .first) 1 (s .args .part .now) (s .args .row .now) (s .pre .0 .start-high) (s .pre .1)),
-    )
+    (omega arith, rw (add-zero, c .place-of .ensures) (begin c .pre .1))
 
 loop-again : tie.Need-loop-again Inv-loop μ-loop
 loop-again c =
@@ -39,14 +37,14 @@ loop-again c =
     v ∙ walk-at (s .args .first) 1 xs i 0 (place + i) (omega arith) (omega arith) (omega arith)) in (
       omega arith,
       rw (sym (add-assoc place i 1))
-          (lay-more (s .args .first) 1 xs (turn .loop .row) (place + i) (c .wide .result) (turn .loop .inv .1) (omega arith) here),
+          (fill-more 471 _ (turn .loop .row) (place + i) (c .wide .result) (turn .loop .inv .1) (omega arith) here),
     )
 
 returns : tie.Need-returns Inv-loop μ-loop
 returns c =
-    let s = begin (c .before .before) in
-    lay-all (s .args .first) 1 (s .args .part .now) (c .before .loop .row) (c .before .before .place-of .result + c .before .loop .i)
-    (c .before .loop .inv .1) (omega arith)
+    let t = begin (c .before .before) .args in
+    let end : t .first + 1 * (length (t .part .now) - 1) - 360 + 1 ≡ c .before .before .place-of .result + c .before .loop .i = omega arith in
+    rw end (c .before .loop .inv .1)
 
 pub copy-spec : {M : Type 1} → statement M
 copy-spec =

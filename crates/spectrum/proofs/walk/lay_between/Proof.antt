@@ -4,9 +4,10 @@ use Prim.Native.Nat.{ℕ, _+_, _*_, _-_, _≤_}
 use native.Mathlib.Nat.{mul-le-mul-left, mul-le-mul-right}
 use native.Mathlib.Omega.{arith}
 use lib.ListN.{length}
+use Rattle.grid.proofs.Filled.{fill-more}
 use Rattle.spectrum.specs.Line.{T}
 use Rattle.spectrum.specs.Lay.{LaidTo}
-use Rattle.spectrum.proofs.Lay.{walk-at, lay-more}
+use Rattle.spectrum.proofs.Lay.{walk-at}
 use Rattle.spectrum.proofs.walk.lay_between.Statement.{statement}
 use Rattle.spectrum.proofs.walk.lay_between.Tie as tie
 
@@ -68,7 +69,7 @@ loop-again c =
     ∙ ap₂ (λ (x y : ℕ). (t .step - l .d) * x + l .d * y) (samples .before .before .wide .ensures .0) (samples .wide2 .ensures .0)
     ∙ walk-at (t .first) (t .step) xs (t .i) (l .d) k (omega arith) (omega arith) (omega arith) in
     let next : t .first + t .step * t .i + (l .d + 1) - 360 ≡ k + 1 = omega arith in
-    (omega arith, omega arith, rw next (lay-more (t .first) (t .step) xs (l .row) k (c .between .result) (l .inv .2) (omega arith) here))
+    (omega arith, omega arith, rw next (fill-more 471 _ (l .row) k (c .between .result) (l .inv .2) (omega arith) here))
 
 returns : tie.Need-returns Inv-loop μ-loop
 returns c =

@@ -4,9 +4,10 @@ use Prim.Native.Nat.{ℕ, _+_, _*_, _-_, _≤_}
 use native.Mathlib.Nat.{mul-le-mul-left, mul-le-mul-right}
 use native.Mathlib.Omega.{arith}
 use lib.ListN.{length, getD}
+use Rattle.grid.proofs.Filled.{fill-more}
 use Rattle.spectrum.specs.Line.{T}
 use Rattle.spectrum.specs.Lay.{LaidTo}
-use Rattle.spectrum.proofs.Lay.{lay-none, walk-at, lay-more, lay-all}
+use Rattle.spectrum.proofs.Lay.{walk-at}
 use Rattle.spectrum.proofs.walk.walk.Statement.{statement}
 use Rattle.spectrum.proofs.walk.walk.Tie as tie
 
@@ -45,7 +46,7 @@ lay-between-requires c κs =
     let p = s .pre .0 in
     let many = enough s in
     let from : t .first + t .step * 0 + (360 + placed .place-of .result - t .first) - 360 ≡ t .first - 360 = omega arith in
-    (p, omega arith, omega arith, omega arith, rw from (lay-none (t .first) (t .step) (t .part .now) (t .row .now) (p .start-high) (s .pre .1)))
+    (p, omega arith, omega arith, omega arith, rw from (s .pre .1))
 
 loop-holds : tie.Need-loop-holds Inv-loop μ-loop
 loop-holds c = let many = enough (begin (c .before .before)) in (omega arith, omega arith, c .lay-between .ensures)
@@ -83,7 +84,8 @@ returns c =
     ∙ walk-at (t .first) (t .step) xs last 0 k (omega arith) (omega arith) (omega arith) in
     let laid : LaidTo (t .first) (t .step) xs (l .row) k =
     (let e : k ≡ t .first + t .step * l .i - 360 = rw whole (omega arith) in rw e (l .inv .2)) in
-    lay-all (t .first) (t .step) xs _ (k + 1) (lay-more (t .first) (t .step) xs (l .row) k (c .between .result) laid (omega arith) here) (omega arith)
+    let after : t .first + t .step * last - 360 + 1 ≡ k + 1 = omega arith in
+    rw after (fill-more 471 _ (l .row) k (c .between .result) laid (omega arith) here)
 
 pub walk-spec : {M : Type 1} → statement M
 walk-spec =

@@ -1,4 +1,4 @@
--- A row that is filled place by place.
+-- Laws of a row that is filled place by place.
 use mathlib.Core.Path.{_≡_, refl, _∙_}
 use mathlib.Core.Bool.{Bool, true, false}
 use mathlib.Core.List.{List}
@@ -9,12 +9,12 @@ use borrow.Author.Tests.{ltb-true, ltb-false}
 use lib.ListN.{length, getD, set, length-set, List·getD-eq-default}
 use lib.Dec.{ltb}
 use lib.Seq.{getD-set-same, getD-set-other}
+use Rattle.grid.specs.Filled.{FilledTo}
 
--- of a row of n places, those below k hold what f says
-pub record FilledTo (n : ℕ) (f : ℕ → ℕ) (row : List ℕ) (k : ℕ) : Type 0 where
-  pub long : length row ≡ n
-  pub filled : (q : ℕ) → q < k → getD row q 0 ≡ f q
+pub fill-none : (n : ℕ) (f : ℕ → ℕ) (row : List ℕ) → length row ≡ n → FilledTo n f row 0
+fill-none n f row long = record { long = long; filled = λ q h. absurd (omega arith) }
 
+-- one place more
 pub fill-more :
     (n : ℕ) (f : ℕ → ℕ) (row : List ℕ) (k v : ℕ) → FilledTo n f row k → k < n → v ≡ f k → FilledTo n f (set row k v) (k + 1)
 fill-more n f row k v l h e = record {
