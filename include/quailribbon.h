@@ -2,7 +2,8 @@
  *
  * A spectrum is a start wavelength (300 to 380 nm), a step (1, 2, 5 or 10 nm) and a row of samples in µW·m⁻²·nm⁻¹, none
  * above 1,000,000, whose last wavelength is from 780 to 830 nm. A panel has reflectances in 1/10000, none above 10,000,
- * on such a grid.
+ * on such a grid. Both are read from 360 to 830 nm: on straight lines between the samples, and where nothing was
+ * measured as the first or the last sample.
  *
  * Every call is answered, whatever it is given: `number` 0 means that the values are given, but for those that have a
  * number of their own beside them (`xy_number`); else it is the refusal's number (below), `place` is that of the first

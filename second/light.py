@@ -116,9 +116,15 @@ def nearest(numerator, denominator):
 
 
 def t_at(w, start, step, samples):
-    """T at w nanometres: the step times the spectrum."""
-    if w < start or w > start + step * (len(samples) - 1):
-        return 0
+    """T at w nanometres, 360 to 830: the step times the spectrum.
+
+    Outside the measured range, the first sample is carried down to 360 and the
+    last one up to 830.
+    """
+    if w < start:
+        return step * samples[0]
+    if w > start + step * (len(samples) - 1):
+        return step * samples[-1]
     i, d = divmod(w - start, step)
     if d == 0:
         return step * samples[i]

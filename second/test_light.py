@@ -6,7 +6,7 @@
 import random
 import unittest
 from itertools import product
-from operator import mul
+from operator import add, mul
 
 import light
 from light import Refused
@@ -27,6 +27,21 @@ def panel(value, start=360, last=830):
     return [value] * (last - start + 1)
 
 
+def grids(starts=range(300, 381)):
+    """Start, step and count: each start and step with the fewest and the most samples."""
+    for step, start in product((1, 2, 5, 10), starts):
+        yield start, step, (779 - start) // step + 2
+        yield start, step, (830 - start) // step + 1
+
+
+def line(step, samples):
+    """T at each whole nanometre of the measured range."""
+    row = []
+    for low, high in zip(samples, samples[1:]):
+        row += [(step - d) * low + d * high for d in range(step)]
+    return [*row, step * samples[-1]]
+
+
 def light_readings():
     """Every reading of a light as a function of start, step and samples."""
     return {
@@ -38,6 +53,15 @@ def light_readings():
         **{f"X, Y, Z {o}": lambda *given, o=o: light.xyz(o, *given) for o in (2, 10)},
         **{f"x, y {o}": lambda *given, o=o: light.xy(o, *given) for o in (2, 10)},
         **{f"chart {o}": lambda *given, o=o: light.chart(o, *given) for o in (2, 10)},
+    }
+
+
+def panel_readings():
+    """Every reading of a panel, likewise."""
+    return {
+        f"{reading.__name__} {o} {i}": lambda *given, r=reading, o=o, i=i: r(o, i, *given)
+        for reading in (light.panel_figures, light.panel_chart)
+        for o, i in product((2, 10), (1, 2))
     }
 
 
@@ -172,11 +196,6 @@ class Readings(unittest.TestCase):
         # x is exactly 73437.5 and y 26562.5, since z has no weight here.
         self.assertEqual(light.xy(2, 380, 1, samples), (73438, 26563))
 
-    def test_lit_only_below_360_is_dark_in_steps_of_1(self):
-        samples = [FULL] * 60 + [0] * 421
-        self.assertEqual(light.figures(300, 1, samples), (0, 0, 0, 0, 0, "dark"))
-        self.assertEqual(light.xy(10, 300, 1, samples), Refused(9))
-
     def test_sample_below_360_pulls_on_the_line_that_crosses_360(self):
         # Samples stand at 359 and 361, so T is FULL at 360 and 0 beyond.
         samples = lone(FULL, 359, start=301, step=2, last=781)
@@ -184,21 +203,12 @@ class Readings(unittest.TestCase):
         self.assertEqual(light.xyz(2, 301, 2, samples), half)
         self.assertNotEqual(light.xy(2, 301, 2, samples), Refused(9))
 
-    def test_nothing_beyond_the_measured_range(self):
-        row = light.t_row(380, 10, [7] * 41)
-        self.assertEqual(row[: 380 - 360], [0] * 20)
-        self.assertEqual(row[380 - 360 : 781 - 360], [70] * 401)
-        self.assertEqual(row[781 - 360 :], [0] * 50)
-
     def test_a_finer_grid_on_the_same_line_reads_the_same(self):
         draw = random.Random(1)
         for start, step, last in ((300, 2, 830), (303, 5, 828), (357, 10, 787), (380, 10, 830)):
             count = (last - start) // step + 1
             samples = [step * draw.randrange(FULL // step + 1) for _ in range(count)]
-            fine = []
-            for low, high in zip(samples, samples[1:]):
-                fine += [low + d * (high - low) // step for d in range(step)]
-            fine.append(samples[-1])
+            fine = [t // step for t in line(step, samples)]
             for name, reading in light_readings().items():
                 with self.subTest(name, step=step):
                     self.assertEqual(reading(start, step, samples), reading(start, 1, fine))
@@ -217,6 +227,141 @@ class Readings(unittest.TestCase):
             self.assertEqual(light.xyz(10, *given)[1], light.photopic_10(*given))
 
 
+class Ends(unittest.TestCase):
+    """The first sample is carried down to 360 and the last one up to 830."""
+
+    def test_the_first_and_the_last_sample_are_carried_times_the_step(self):
+        row = light.t_row(380, 10, [1, 2, *[3] * 37, 4, 5])
+        self.assertEqual(row[: 382 - 360], [10] * 21 + [11])
+        self.assertEqual(row[779 - 360 :], [49] + [50] * 51)
+
+    def test_t_is_the_line_with_both_ends_carried(self):
+        draw = random.Random(5)
+        starts, lasts = (300, 355, 360, 361, 370, 380), (780, 781, 785, 800, 829, 830)
+        for start, last, step in product(starts, lasts, (1, 2, 5, 10)):
+            if (last - start) % step == 0:
+                samples = [draw.randint(1, FULL) for _ in range(start, last + 1, step)]
+                measured = line(step, samples)
+                below, above = [measured[0]] * (start - 360), [measured[-1]] * (830 - last)
+                expected = below + measured[max(360 - start, 0) :] + above
+                self.assertEqual(light.t_row(start, step, samples), expected)
+
+    def test_a_constant_row_has_a_constant_t(self):
+        for (start, step, count), value in product(grids(), (0, 1, 9_999, FULL)):
+            self.assertEqual(light.t_row(start, step, [value] * count), [step * value] * 471)
+
+    def test_a_row_that_is_widened_by_its_ends_reads_the_same(self):
+        draw = random.Random(6)
+        for start, step, last in ((361, 1, 829), (380, 2, 784), (370, 5, 805), (380, 10, 780)):
+            samples = [draw.randint(1, 10_000) for _ in range(start, last + 1, step)]
+            below, above = (start - 360) // step, (830 - last) // step
+            wide = [samples[0]] * below + samples + [samples[-1]] * above
+            for name, reading in (light_readings() | panel_readings()).items():
+                with self.subTest(name, step=step):
+                    self.assertEqual(reading(start, step, samples), reading(360, step, wide))
+
+    def test_a_lone_end_lights_every_nanometre_beyond_it(self):
+        for wavelength, beyond in ((380, slice(381 - 360)), (780, slice(780 - 360, None))):
+            for observer, (efficacy, functions) in OBSERVERS.items():
+                expected = (greatest_illuminance(efficacy, each[beyond]) for each in functions)
+                with self.subTest(wavelength=wavelength, observer=observer):
+                    lit = light.xyz(observer, 380, 1, lone(FULL, wavelength))
+                    self.assertEqual(lit, tuple(expected))
+
+    def test_carried_ends_have_no_scotopic_weight(self):
+        self.assertEqual(light.scotopic(380, 1, lone(FULL, 380)), 1001)
+        self.assertEqual(light.scotopic(380, 1, lone(FULL, 780)), 0)
+
+
+def lit_below_360(start, step, count):
+    """A row lit only where no nanometre from 360 on feels it, and how many samples these are."""
+    unfelt = max((360 - start) // step, 0)
+    return [10_000] * unfelt + [0] * (count - unfelt), unfelt
+
+
+class Dark(unittest.TestCase):
+    """A light or a panel is dark exactly if T is 0 from 360 to 830."""
+
+    def assert_dark(self, expected, start, step, samples):
+        row = start, step, samples
+        with self.subTest(start=start, step=step, count=len(samples)):
+            for observer in OBSERVERS:
+                self.assertEqual(light.xy(observer, *row) == Refused(9), expected)
+                for illuminant in ILLUMINANTS:
+                    colour = light.panel_xy(observer, illuminant, *row)
+                    self.assertEqual(colour == Refused(9), expected)
+            if expected:
+                self.assertEqual(light.figures(*row), (0, 0, 0, 0, 0, "dark"))
+
+    def test_zeros_on_any_grid(self):
+        for start, step, count in grids():
+            self.assert_dark(True, start, step, [0] * count)
+
+    def test_a_lone_first_sample(self):
+        for start, step in ((300, 1), (359, 1), (358, 2), (355, 5), (300, 10), (350, 10)):
+            self.assert_dark(True, start, step, lone(10_000, start, start, step, 790))
+        for start, step in ((360, 1), (359, 2), (356, 5), (355, 10), (361, 1), (380, 10)):
+            self.assert_dark(False, start, step, lone(1, start, start, step, 790))
+
+    def test_below_360_on_any_grid(self):
+        for start, step, count in grids():
+            samples, unfelt = lit_below_360(start, step, count)
+            self.assert_dark(True, start, step, samples)
+            samples[unfelt] = 1
+            self.assert_dark(False, start, step, samples)
+
+    def test_a_lone_last_sample_on_any_grid(self):
+        for start, step, count in grids():
+            self.assert_dark(False, start, step, [0] * (count - 1) + [1])
+
+
+class Mixing(unittest.TestCase):
+    """Two lights on one grid, and their mixture: the samples summed place by place."""
+
+    def pairs(self):
+        """Start, step, and two rows with both ends lit and their mixture."""
+        draw = random.Random(7)
+        cases = product(grids((300, 355, 361, 380)), (0, 1, 5, 39), (20, FULL // 2))
+        for (start, step, count), lit, largest in cases:
+            one, other = [0] * count, [0] * count
+            for row in (one, other):
+                for place in (0, *draw.sample(range(1, count - 1), lit), count - 1):
+                    row[place] = draw.randint(1, largest)
+            yield start, step, (one, other, list(map(add, one, other)))
+
+    def amounts(self, *given):
+        """Each illuminance and each of X, Y, Z."""
+        return (
+            light.photopic(*given),
+            light.scotopic(*given),
+            light.photopic_10(*given),
+            *(light.mesopic(k, *given) for k in (0, 500, 1000)),
+            *light.xyz(2, *given),
+            *light.xyz(10, *given),
+        )
+
+    def test_each_amount_is_the_sum_to_one_unit_and_order_is_kept(self):
+        for start, step, rows in self.pairs():
+            amounts = (self.amounts(start, step, row) for row in rows)
+            for a, b, mixed in zip(*amounts, strict=True):
+                self.assertLessEqual(abs(mixed - (a + b)), 1)
+                self.assertLessEqual(max(a, b), mixed)
+
+    def test_each_coordinate_lies_between_the_two(self):
+        for (start, step, rows), observer in product(self.pairs(), OBSERVERS):
+            colours = (light.xy(observer, start, step, row) for row in rows)
+            for a, b, mixed in zip(*colours, strict=True):
+                self.assertLessEqual(min(a, b), mixed)
+                self.assertLessEqual(mixed, max(a, b))
+
+    def test_a_dark_light_leaves_the_coordinates_of_the_other(self):
+        for (start, step, (one, *_)), observer in product(self.pairs(), OBSERVERS):
+            dark, _ = lit_below_360(start, step, len(one))
+            mixture = list(map(add, one, dark))
+            colour = light.xy(observer, start, step, one)
+            self.assertEqual(light.xy(observer, start, step, mixture), colour)
+
+
 class Panels(unittest.TestCase):
     def test_full_white(self):
         white = 360, 1, panel(10_000)
@@ -225,15 +370,18 @@ class Panels(unittest.TestCase):
         self.assertEqual(light.panel_xyz(10, 1, *white)[1], 100000)
         self.assertEqual(light.panel_xyz(10, 2, *white)[1], 100000)
 
-    def test_white_in_other_steps(self):
-        for step in (2, 5, 10):
-            white = 360, step, [10_000] * (470 // step + 1)
-            self.assertEqual(light.panel_xyz(2, 2, *white), (95047, 100000, 108883))
-
     def test_the_white_sum_runs_over_360_to_830_whatever_the_panel(self):
-        # A white sum over 380 to 780 alone would give 109849.
+        # A white sum over 380 to 780 alone would give 109851.
         narrow = light.panel_xyz(2, 1, 380, 1, panel(10_000, 380, 780))
-        self.assertEqual(narrow[0], 109848)
+        self.assertEqual(narrow[0], 109850)
+
+    def test_grey_has_its_reflectance_as_y_on_any_grid(self):
+        for start, step, count in grids((300, 355, 360, 361, 380)):
+            for setting in product(OBSERVERS, ILLUMINANTS):
+                for reflectance in (0, 1, 4_999, 9_999, 10_000):
+                    with self.subTest(start=start, step=step, count=count, setting=setting):
+                        grey = light.panel_xyz(*setting, start, step, [reflectance] * count)
+                        self.assertEqual(grey[1], 10 * reflectance)
 
     def test_grey_has_the_colour_of_white(self):
         for observer in (2, 10):
@@ -292,15 +440,13 @@ class Greatest(unittest.TestCase):
 
     def test_no_t_is_above_s_times_the_limit(self):
         # T only rises with the samples, so full rows are enough.
-        for step in light.STEPS:
-            for start in range(300, 381):
-                row = light.t_row(start, step, [FULL] * ((830 - start) // step + 1))
-                self.assertEqual(max(row), step * FULL)
+        for start, step, count in grids():
+            self.assertEqual(max(light.t_row(start, step, [FULL] * count)), step * FULL)
 
-    def test_the_full_light_attains_them(self):
-        for step in light.STEPS:
-            full = 360, step, [FULL] * (470 // step + 1)
-            with self.subTest(step=step):
+    def test_the_full_light_attains_them_on_any_grid(self):
+        for start, step, count in grids():
+            full = start, step, [FULL] * count
+            with self.subTest(start=start, step=step, count=count):
                 self.assertEqual(light.photopic(*full), greatest_illuminance(683, light.V))
                 self.assertEqual(light.scotopic(*full), greatest_illuminance(1700, light.V_PRIME))
                 self.assertEqual(light.photopic_10(*full), greatest_illuminance(684, light.V10))
@@ -309,14 +455,14 @@ class Greatest(unittest.TestCase):
                 for observer in OBSERVERS:
                     self.assertEqual(light.xyz(observer, *full), greatest_xyz(observer))
 
-    def test_the_white_panel_attains_them(self):
-        for step in light.STEPS:
-            white = 360, step, [10_000] * (470 // step + 1)
-            for setting in product(OBSERVERS, ILLUMINANTS):
-                with self.subTest(step=step, setting=setting):
-                    self.assertEqual(
-                        light.panel_xyz(*setting, *white), greatest_panel_xyz(*setting)
-                    )
+    def test_the_white_panel_attains_them_on_any_grid(self):
+        for setting in product(OBSERVERS, ILLUMINANTS):
+            greatest = greatest_panel_xyz(*setting)
+            self.assertEqual(greatest[1], 100_000)
+            for start, step, count in grids():
+                with self.subTest(start=start, step=step, count=count, setting=setting):
+                    white = light.panel_xyz(*setting, start, step, [10_000] * count)
+                    self.assertEqual(white, greatest)
 
     def test_the_greatest_illuminances(self):
         self.assertEqual(greatest_illuminance(683, light.V), 72_983_274)
@@ -436,14 +582,12 @@ class Records(unittest.TestCase):
 
     def test_round_trips(self):
         draw = random.Random(4)
-        for code, step in enumerate((1, 2, 5, 10)):
-            for start in range(300, 381):
-                for last in (779 + step - (779 - start) % step, 830 - (830 - start) % step):
-                    count = (last - start) // step + 1
-                    samples = [draw.randrange(FULL + 1) for _ in range(count)]
-                    record = light.write_record(start, step, samples, 1_331)
-                    self.assertEqual(record, packed(samples, 1, code, start, count))
-                    self.assertEqual(light.read_record(record, count), (start, step, samples))
+        for start, step, count in grids():
+            code = (1, 2, 5, 10).index(step)
+            samples = [draw.randrange(FULL + 1) for _ in range(count)]
+            record = light.write_record(start, step, samples, 1_331)
+            self.assertEqual(record, packed(samples, 1, code, start, count))
+            self.assertEqual(light.read_record(record, count), (start, step, samples))
 
     def test_shortest_and_longest(self):
         shortest = light.write_record(380, 10, [FULL] * 41, 106)

@@ -36,6 +36,8 @@ static void lights(void) {
 static void panels(void) {
     qr_xyz_answer xyz = qr_panel_xyz(2, 2, 360, 1, white, 471);
     expect("qr_panel_xyz", xyz.number == 0 && xyz.x == 95047 && xyz.y == 100000 && xyz.z == 108883);
+    xyz = qr_panel_xyz(2, 1, 380, 1, white, 401);
+    expect("a white panel from 380 to 780", xyz.number == 0 && xyz.x == 109850 && xyz.y == 100000 && xyz.z == 35585);
     qr_xy_answer xy = qr_panel_xy(2, 2, 360, 1, white, 471);
     expect("qr_panel_xy", xy.number == 0 && xy.x == 31273 && xy.y == 32902);
     qr_chart_answer chart = qr_panel_chart(2, 2, 360, 1, white, 471);

@@ -88,6 +88,9 @@ class Panels(Case):
     def test_white(self):
         self.assertEqual(quailribbon.panel_xyz(2, 1, 360, 1, WHITE), (109850, 100000, 35585))
         self.assertEqual(quailribbon.panel_xy(2, 2, 360, 1, WHITE), (31273, 32902))
+        for step in (1, 2, 5, 10):
+            narrow = WHITE[: 400 // step + 1]
+            self.assertEqual(quailribbon.panel_xyz(2, 1, 380, step, narrow), (109850, 100000, 35585))
         self.assertEqual(quailribbon.panel_chart(2, 2, 360, 1, WHITE), (31273 / 100000, 32902 / 100000))
 
     def test_figures(self):

@@ -12,6 +12,9 @@ dimension that holds whole numbers, such as bytes, an array.array or a numpy arr
 numbers of the right width (32 bits for samples, 16 for reflectances, 8 for records) is read where it is, writable or
 not; everything else is copied first, which takes longer.
 
+How it is read. A spectrum or a panel counts from 360 to 830 nm: on straight lines between the samples, and where
+nothing was measured as the first or the last sample.
+
 What is raised. `Refused`, with the number, name and place of the refusal, where the rules refuse what was asked,
 however large its numbers are; a negative start, step, observer or illuminant is refused like any other wrong one.
 `ValueError` where k or a number of a row is negative, or a record's byte is above 255. `TypeError` where something is

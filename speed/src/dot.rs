@@ -51,9 +51,10 @@ pub fn panel(start: u32, step: u32, reflectances: &[u16]) -> [f64; 5] {
     [x, y, z, chart_x, chart_y]
 }
 
-/// The spectrum at each whole nanometre from 360 to 830.
+/// The spectrum at each whole nanometre from 360 to 830, with its ends carried there.
 fn line<T: Copy + Into<f64>>(start: u32, step: u32, samples: &[T]) -> Weights {
     let mut line = [0.0; WAVELENGTHS];
+    line[..start.saturating_sub(FIRST) as usize].fill(samples[0].into());
     let mut wavelength = start;
     for pair in samples.windows(2) {
         let (this, next): (f64, f64) = (pair[0].into(), pair[1].into());
@@ -66,6 +67,6 @@ fn line<T: Copy + Into<f64>>(start: u32, step: u32, samples: &[T]) -> Weights {
         }
     }
     // Here the wavelength is the last one, 780 at least.
-    line[(wavelength - FIRST) as usize] = samples[samples.len() - 1].into();
+    line[(wavelength - FIRST) as usize..].fill(samples[samples.len() - 1].into());
     line
 }

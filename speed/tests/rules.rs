@@ -95,6 +95,20 @@ fn p9_white_panels() {
 }
 
 #[test]
+fn the_ends_are_carried_to_360_and_to_830() {
+    let at = |place: usize| {
+        let mut samples = [0; 41];
+        samples[place] = 1_000_000;
+        let answer = xyz(2, 380, 10, &samples);
+        [answer.x, answer.y, answer.z]
+    };
+    assert_eq!(at(0), [13903, 403, 65458]);
+    assert_eq!(at(40), [575, 208, 0]);
+    let white = panel_xyz(2, 1, 380, 1, &[10_000; 401]);
+    assert_eq!([white.x, white.y, white.z], [109850, 100000, 35585]);
+}
+
+#[test]
 fn p10_refusals() {
     let refused = |start, step, samples: &[u32]| {
         let answer = photopic(start, step, samples);

@@ -13,8 +13,8 @@ use Rattle.grid.specs.Check.{lastOf}
 use Rattle.grid.proofs.Accepted.{OnGrid}
 use Rattle.spectrum.specs.Line.{lineAt, T}
 use Rattle.spectrum.specs.Lay.{listed, rowOf, Part, AtEnd, LaidTo}
-use Rattle.spectrum.proofs.EndRule.{end-below, end-above}
-use Rattle.spectrum.proofs.Measured.{line-at, T-measured, T-below, T-above, T-from}
+use Rattle.spectrum.proofs.EndRule.{first-carried, last-carried}
+use Rattle.spectrum.proofs.Measured.{line-at, T-measured, T-below, T-from-last, T-from}
 
 pub length-listed : (n : ℕ) (f : ℕ → ℕ) → length (listed n f) ≡ n
 unfolding listed
@@ -36,13 +36,16 @@ module _ (a s : ℕ) (xs : List ℕ) where
       let above : 360 + k - a ≡ s * i + d = omega arith in
       sym (T-measured a s xs (360 + k) (omega arith) l ∙ (ap (lineAt s xs) above ∙ line-at s xs i d h))
 
-  -- below the measured range, and above it
+  -- below the measured range, and from the last sample on
   pub low-end : (high : ℕ) → high ≤ a - 360 → AtEnd a s xs 0 high
-  low-end high h q p l = T-below a s xs (360 + q) (omega arith) ∙ end-below a s xs (360 + q) 360 (omega arith) (omega arith)
+  low-end high h q p l =
+      T-below a s xs (360 + q) (omega arith) ∙ first-carried a s xs (360 + q) (omega arith) ∙ sym (first-carried a s xs 360 (omega arith))
 
-  pub high-end : (low high : ℕ) → lastOf a s (length xs) < 360 + low → AtEnd a s xs low high
-  high-end low high h q p l =
-      T-above a s xs (360 + q) (omega arith) ∙ end-above a s xs (360 + q) (360 + low) (omega arith) (omega arith)
+  pub high-end : (low high : ℕ) → 0 < s → lastOf a s (length xs) ≤ 360 + low → AtEnd a s xs low high
+  high-end low high pos h q p l =
+      T-from-last a s xs (360 + q) pos (omega arith)
+      ∙ last-carried a s xs (360 + q) (omega arith)
+      ∙ sym (last-carried a s xs (360 + low) (omega arith))
 
   pub lay-all : (row : List ℕ) → LaidTo a s xs row 471 → row ≡ rowOf a s xs
   unfolding rowOf

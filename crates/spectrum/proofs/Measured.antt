@@ -3,16 +3,17 @@ use mathlib.Core.Path.{_≡_, refl, _∙_, sym, ap}
 use mathlib.Core.Bool.{Bool, true, false, cond, and-false}
 use mathlib.Core.List.{List}
 use Prim.Native.Nat.{ℕ, _+_, _*_, _-_, _/_, _%_, _≤_, _<_}
-use native.Mathlib.Nat.{mul-add-div, mul-add-mod-self-left, div-eq-of-lt, mod-lt, mod-eq-of-lt, add-zero, add-assoc, mul-le-mul-left}
+use native.Mathlib.Nat.{mul-add-div, mul-add-mod-self-left, div-eq-of-lt, mod-lt, mod-eq-of-lt, add-zero, add-assoc, sub-zero, mul-le-mul-left}
 use native.Mathlib.Omega.{arith}
-use borrow.Author.Tests.{le-leb, lt-leb}
+use borrow.Author.Tests.{le-leb, lt-leb, leb-true, leb-false}
 use lib.ListN.{length, getD, drop, length-drop}
 use lib.Seq.{getD-drop}
+use lib.Dec.{leb}
 use Rattle.grid.specs.Check.{lastOf, Within}
 use Rattle.mixing.specs.Mixture.{mix, Linear}
 use Rattle.mixing.proofs.Mixture.{getD-mix, length-mix, linear-cond, linear-weighted}
 use Rattle.spectrum.specs.Line.{lineAt, isMeasured, endRule, T, W}
-use Rattle.spectrum.proofs.EndRule.{end-bound, end-from, end-linear}
+use Rattle.spectrum.proofs.EndRule.{last-carried, end-bound, end-from, end-linear}
 
 -- d nanometres above sample i
 pub line-at : (s : ℕ) (xs : List ℕ) (i d : ℕ) → d < s → lineAt s xs (s * i + d) ≡ (s - d) * getD xs i 0 + d * getD xs (i + 1) 0
@@ -43,6 +44,21 @@ module _ (a s : ℕ) (xs : List ℕ) (w : ℕ) where
   pub T-above : lastOf a s (length xs) < w → T a s xs w ≡ endRule a s xs w
   unfolding T
   T-above p = rw (lt-leb w (lastOf a s (length xs)) p, and-false)
+
+  -- at the last sample the line is what is carried from there on
+  pub T-from-last : 0 < s → lastOf a s (length xs) ≤ w → T a s xs w ≡ endRule a s xs w
+  T-from-last pos h = go (leb w (lastOf a s (length xs))) refl
+    where
+      last : ℕ
+      last = length xs - 1
+
+      go : (b : Bool) → leb w (lastOf a s (length xs)) ≡ b → T a s xs w ≡ endRule a s xs w
+      go true e =
+          let low : w ≤ lastOf a s (length xs) = leb-true w (lastOf a s (length xs)) e in
+          let up : w - a ≡ s * last + 0 = omega arith in
+          let none : (s - 0) * getD xs last 0 + 0 * getD xs (last + 1) 0 ≡ s * getD xs last 0 = rw (sub-zero s) (omega arith) in
+          T-measured (omega arith) low ∙ ap (lineAt s xs) up ∙ line-at s xs last 0 pos ∙ none ∙ sym (last-carried a s xs w (omega arith))
+      go false e = T-above (leb-false w (lastOf a s (length xs)) e)
 
 -- T of the samples from j on, where w is not below sample j
 pub T-from :

@@ -3,7 +3,7 @@ use mathlib.Core.Bool.{Bool, cond, _&&_}
 use mathlib.Core.List.{List}
 use Prim.Native.Nat.{ℕ, _+_, _*_, _-_, _/_, _%_}
 use lib.ListN.{length, getD}
-use lib.Dec.{leb}
+use lib.Dec.{leb, ltb}
 use Rattle.grid.specs.Check.{lastOf}
 use Rattle.mixing.specs.Sum.{weighted}
 
@@ -15,9 +15,9 @@ lineAt s xs e = (s - e % s) * getD xs (e / s) 0 + e % s * getD xs (e / s + 1) 0
 abbrev pub isMeasured : ℕ → ℕ → ℕ → ℕ → Bool
 isMeasured a s n w = leb a w && leb w (lastOf a s n)
 
--- outside the measured range T is 0
+-- outside the measured range T is s times the first sample below it, and s times the last one above it
 unfoldable pub endRule : ℕ → ℕ → List ℕ → ℕ → ℕ
-endRule a s xs w = 0
+endRule a s xs w = s * getD xs (cond (ltb w a) 0 (length xs - 1)) 0
 
 -- T, s times the spectrum at the wavelength w: on the line within the measured range
 unfoldable pub T : ℕ → ℕ → List ℕ → ℕ → ℕ

@@ -36,7 +36,7 @@ fn steps_to_360(start: u32, step: u32) -> u32
     if 360 < start { 0 } else { (360 - start) / step }
 }
 
-// Lays T of a part that begins there over a row: below the measured range, within it and above it.
+// Lays T of a part that begins there over a row: below the measured range, up to its last sample, and from there on.
 pub fn lay(first: u32, step: u32, part: &[u32], row: &mut [u64; 471])
     requires { ⌜ Part first step (length (now part)) × (length (now row) ≡ 471) ⌝ }
     ensures { λ _. ⌜ now (row .exit) ≡ rowOf first step (now (part .entry)) ⌝ }
@@ -44,13 +44,13 @@ pub fn lay(first: u32, step: u32, part: &[u32], row: &mut [u64; 471])
     let last = first + step * (part.len() - 1) as u32;
     lay_end(first, step, part, 0, place_of(first), row);
     lay_line(first, step, part, row);
-    lay_end(first, step, part, place_of(last) + 1, 471, row);
+    lay_end(first, step, part, place_of(last), 471, row);
 }
 
 // Each step is named, so that the compiler knows it where the line is walked.
 fn lay_line(first: u32, step: u32, part: &[u32], row: &mut [u64; 471])
     requires { ⌜ Part first step (length (now part)) × LaidTo first step (now part) (now row) (first - 360) ⌝ }
-    ensures { λ _. ⌜ LaidTo first step (now (part .entry)) (now (row .exit)) (lastOf first step (length (now (part .entry))) - 360 + 1) ⌝ }
+    ensures { λ _. ⌜ LaidTo first step (now (part .entry)) (now (row .exit)) (lastOf first step (length (now (part .entry))) - 360) ⌝ }
 {
     match step {
         1 => copy(first, part, row),

@@ -1,4 +1,5 @@
-// The line laid place by place: copied at step 1, and at other steps walked from sample to sample with no division.
+// The line laid place by place, up to the last sample: copied at step 1, and at other steps walked from sample to sample with no
+// division.
 ghost use mathlib.Core.Path.{_≡_};
 ghost use Prim.Native.Nat.{_+_, _*_, _-_, _^_, _<_, _≤_};
 ghost use lib.ListN.{length};
@@ -8,10 +9,10 @@ ghost use Rattle.spectrum.specs.Lay.{Part, LaidTo};
 // At step 1 the line is the samples.
 pub fn copy(first: u32, part: &[u32], row: &mut [u64; 471])
     requires { ⌜ Part first 1 (length (now part)) × LaidTo first 1 (now part) (now row) (first - 360) ⌝ }
-    ensures { λ _. ⌜ LaidTo first 1 (now (part .entry)) (now (row .exit)) (lastOf first 1 (length (now (part .entry))) - 360 + 1) ⌝ }
+    ensures { λ _. ⌜ LaidTo first 1 (now (part .entry)) (now (row .exit)) (lastOf first 1 (length (now (part .entry))) - 360) ⌝ }
 {
     let place = place_of(first);
-    for i in 0..part.len() {
+    for i in 0..part.len() - 1 {
         row[place + i] = wide(part[i]);
     }
 }
@@ -19,7 +20,7 @@ pub fn copy(first: u32, part: &[u32], row: &mut [u64; 471])
 // First from 360 nm, which may be above the first sample, to the next sample; then from each sample to the next.
 pub fn walk(first: u32, step: u32, part: &[u32], row: &mut [u64; 471])
     requires { ⌜ Part first step (length (now part)) × LaidTo first step (now part) (now row) (first - 360) ⌝ }
-    ensures { λ _. ⌜ LaidTo first step (now (part .entry)) (now (row .exit)) (lastOf first step (length (now (part .entry))) - 360 + 1) ⌝ }
+    ensures { λ _. ⌜ LaidTo first step (now (part .entry)) (now (row .exit)) (lastOf first step (length (now (part .entry))) - 360) ⌝ }
 {
     let last = part.len() - 1;
     let place = place_of(first);
@@ -27,8 +28,6 @@ pub fn walk(first: u32, step: u32, part: &[u32], row: &mut [u64; 471])
     for i in 1..last {
         lay_between(first, step, part, i, 0, row);
     }
-    let end = place_of(first + step * last as u32);
-    row[end] = between(step, 0, wide(part[last]), 0);
 }
 
 // The line from so many nanometres above a sample up to the next one.

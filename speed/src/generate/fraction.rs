@@ -62,11 +62,13 @@ fn at(table: &Table, row: usize) -> u128 {
     u128::from(table[row])
 }
 
-/// What each place adds: nothing below 360.
+/// What each place adds: nothing below 360, and an end also what lies beyond it, from 360 to 830.
 fn each(grid: &Grid, adds: impl Fn(usize) -> u128) -> Vec<u128> {
-    let of_place = |place| match grid.wavelength(place).checked_sub(FIRST) {
-        Some(row) => adds(row as usize),
-        None => 0,
-    };
-    (0..grid.count).map(of_place).collect()
+    let last = grid.wavelength(grid.count - 1);
+    let mut of_place = vec![0; grid.count];
+    for row in 0..tables::WAVELENGTHS {
+        let measured = (FIRST + row as u32).clamp(grid.start, last);
+        of_place[(measured - grid.start) as usize] += adds(row);
+    }
+    of_place
 }

@@ -36,6 +36,11 @@ pub fn coordinate(random: &mut Random, grid: &Grid, observer: u32) -> Option<Vec
         2 => [&tables::X, &tables::Y, &tables::Z],
         _ => [&tables::X10, &tables::Y10, &tables::Z10],
     };
+    // A sample at an end is carried, so it pulls at other wavelengths too.
+    let inner = |wavelength| {
+        grid.place(wavelength)
+            .filter(|place| (1..grid.count - 1).contains(place))
+    };
     (0..TRIES).find_map(|_| {
         let chosen = random.pick(&functions[..2]);
         let odd = i128::from(2 * random.within(0..=31) + 1);
@@ -54,8 +59,8 @@ pub fn coordinate(random: &mut Random, grid: &Grid, observer: u32) -> Option<Vec
         let (up, down) = (up.unsigned_abs(), down.unsigned_abs());
         let divisor = gcd(up, down);
         let mut samples = vec![0; grid.count];
-        samples[grid.place(first)?] = small(down / divisor)?;
-        samples[grid.place(second)?] = small(up / divisor)?;
+        samples[inner(first)?] = small(down / divisor)?;
+        samples[inner(second)?] = small(up / divisor)?;
         Some(nudged(random, samples))
     })
 }

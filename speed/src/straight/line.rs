@@ -24,10 +24,12 @@ pub fn observer(asked: u32) -> Result<Observer, Refusal> {
     }
 }
 
-/// T at each whole nanometre from 360 to 830, of a grid that was checked.
+/// T at each whole nanometre from 360 to 830, of a grid that was checked: the first sample is
+/// carried down to 360 and the last one up to 830.
 pub fn line<T: Copy + Into<u64>>(start: u32, step: u32, samples: &[T]) -> Table {
     let mut line = [0; tables::WAVELENGTHS];
     let s = u64::from(step);
+    line[..start.saturating_sub(FIRST) as usize].fill(s * samples[0].into());
     let mut wavelength = start;
     for pair in samples.windows(2) {
         let (this, next): (u64, u64) = (pair[0].into(), pair[1].into());
@@ -39,7 +41,7 @@ pub fn line<T: Copy + Into<u64>>(start: u32, step: u32, samples: &[T]) -> Table 
         }
     }
     // Here the wavelength is the last one, 780 at least.
-    line[(wavelength - FIRST) as usize] = s * samples[samples.len() - 1].into();
+    line[(wavelength - FIRST) as usize..].fill(s * samples[samples.len() - 1].into());
     line
 }
 

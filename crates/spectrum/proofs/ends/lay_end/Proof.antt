@@ -16,7 +16,7 @@ abbrev μ-loop : tie.MeasureT-loop
 μ-loop first step part low high row₀ value q₀ row q = high - q
 
 loop-holds : tie.Need-loop-holds Inv-loop μ-loop
-loop-holds c = (omega arith, omega arith, c .before .before .pre .3)
+loop-holds c = (omega arith, omega arith, c .before .before .pre .4)
 
 loop-again : tie.Need-loop-again Inv-loop μ-loop
 loop-again c =
@@ -25,7 +25,7 @@ loop-again c =
     let t = s .args in
     let l = c .before .loop in
     let here : value .end-rule .result ≡ T (t .first) (t .step) (t .part .now) (360 + l .q) =
-    value .end-rule .ensures ∙ sym (s .pre .2 (l .q) (l .inv .0) (omega arith)) in
+    value .end-rule .ensures ∙ sym (s .pre .3 (l .q) (l .inv .0) (omega arith)) in
     (omega arith, omega arith, fill-more 471 _ (l .row) (l .q) (value .end-rule .result) (l .inv .2) (omega arith) here)
 
 returns : tie.Need-returns Inv-loop μ-loop
@@ -42,7 +42,7 @@ lay-end-spec =
     μ-loop
     (λ c. omega arith)
     (λ c. omega arith)
-    (λ c κs. search needs)
+    (λ c κs. c .before .pre .0)
     loop-holds
     (λ c. omega arith)
     (λ c. omega arith)

@@ -29,6 +29,7 @@ lay-end-requires c κs =
     let place = c .before .place-of in
     let s = begin (c .before) in
     let t = s .args in (
+      s .pre .0,
       omega arith,
       omega arith,
       low-end (t .first) (t .step) (t .part .now) (place .result) (omega arith),
@@ -44,10 +45,12 @@ lay-end-requires-2 : tie.Need-lay-end-requires-2
 lay-end-requires-2 c κs =
     let place = c .before .place-of2 in
     let line = c .before .before in
-    let t = begin (low-laid (line .before .before)) .args in (
+    let s = begin (low-laid (line .before .before)) in
+    let t = s .args in (
+      s .pre .0,
       omega arith,
       omega arith,
-      high-end (t .first) (t .step) (t .part .now) (place .result + 1) 471 (omega arith),
+      high-end (t .first) (t .step) (t .part .now) (place .result) _ (s .pre .0 .step-low) (omega arith),
       rw (place .ensures) (line .lay-line .ensures),
     )
 
@@ -68,6 +71,5 @@ lay-spec =
     lay-end-requires
     lay-line-requires
     (λ c κs. search needs)
-    (λ c. search needs)
     lay-end-requires-2
     returns)

@@ -13,10 +13,10 @@ use Rattle.spectrum.proofs.walk.copy.Statement.{statement}
 use Rattle.spectrum.proofs.walk.copy.Tie as tie
 
 abbrev Inv-loop : tie.InvT-loop
-Inv-loop first part row₀ place i₀ i-end row i = (i ≤ length part) × LaidTo first 1 part row (place + i)
+Inv-loop first part row₀ place i₀ i-end row i = (i ≤ length part - 1) × LaidTo first 1 part row (place + i)
 
 abbrev μ-loop : tie.MeasureT-loop
-μ-loop first part row₀ place i₀ i-end row i = length part - i
+μ-loop first part row₀ place i₀ i-end row i = length part - 1 - i
 
 abbrev begin : tie.After-place-of Inv-loop μ-loop → tie.Start Inv-loop μ-loop
 begin c = c .before .before
@@ -43,7 +43,7 @@ loop-again c =
 returns : tie.Need-returns Inv-loop μ-loop
 returns c =
     let t = begin (c .before .before) .args in
-    let end : t .first + 1 * (length (t .part .now) - 1) - 360 + 1 ≡ c .before .before .place-of .result + c .before .loop .i = omega arith in
+    let end : t .first + 1 * (length (t .part .now) - 1) - 360 ≡ c .before .before .place-of .result + c .before .loop .i = omega arith in
     rw end (c .before .loop .inv .1)
 
 pub copy-spec : {M : Type 1} → statement M
@@ -53,6 +53,7 @@ copy-spec =
     Inv-loop
     μ-loop
     (λ c κs. tt)
+    (λ c. omega arith)
     loop-holds
     (λ c. search needs)
     (λ c. omega arith)

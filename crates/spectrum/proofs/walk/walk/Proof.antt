@@ -1,13 +1,10 @@
 -- The loop's invariant: up to sample i the row is laid.
-use mathlib.Core.Path.{_≡_, _∙_, ap}
-use Prim.Native.Nat.{ℕ, _+_, _*_, _-_, _≤_}
+use mathlib.Core.Path.{_≡_}
+use Prim.Native.Nat.{_+_, _*_, _-_, _≤_}
 use native.Mathlib.Nat.{mul-le-mul-left, mul-le-mul-right}
 use native.Mathlib.Omega.{arith}
-use lib.ListN.{length, getD}
-use Rattle.grid.proofs.Filled.{fill-more}
-use Rattle.spectrum.specs.Line.{T}
+use lib.ListN.{length}
 use Rattle.spectrum.specs.Lay.{LaidTo}
-use Rattle.spectrum.proofs.Lay.{walk-at}
 use Rattle.spectrum.proofs.walk.walk.Statement.{statement}
 use Rattle.spectrum.proofs.walk.walk.Tie as tie
 
@@ -23,19 +20,12 @@ begin c = c .before .before
 abbrev at-loop : tie.At-loop Inv-loop μ-loop → tie.Start Inv-loop μ-loop
 at-loop c = begin (c .before .before .before)
 
--- a part has samples enough for a stretch, and so few that no place wraps
+-- a part has samples enough for a stretch
 enough : (s : tie.Start Inv-loop μ-loop) → 40 ≤ length (s .args .part .now) - 1
 enough s =
     let p = s .pre .0 in
     let most : s .args .step * (length (s .args .part .now) - 1) ≤ 10 * (length (s .args .part .now) - 1) =
     mul-le-mul-right (length (s .args .part .now) - 1) (p .step-high) in
-    omega arith
-
-few : (s : tie.Start Inv-loop μ-loop) → length (s .args .part .now) ≤ 831
-few s =
-    let p = s .pre .0 in
-    let least : 1 * (length (s .args .part .now) - 1) ≤ s .args .step * (length (s .args .part .now) - 1) =
-    mul-le-mul-right (length (s .args .part .now) - 1) (p .step-low) in
     omega arith
 
 lay-between-requires : tie.Need-lay-between-requires Inv-loop μ-loop
@@ -63,29 +53,11 @@ lay-between-requires-2 c κs =
 loop-again : tie.Need-loop-again Inv-loop μ-loop
 loop-again c = (omega arith, omega arith, c .lay-between2 .ensures)
 
-cast-place-of : tie.Need-cast-place-of Inv-loop μ-loop
-cast-place-of c = omega (arith, few (at-loop (c .before)))
-
 returns : tie.Need-returns Inv-loop μ-loop
 returns c =
-    let wide = c .before in
-    let end = wide .before .before in
-    let l = end .before .before .loop in
-    let t = at-loop (end .before .before) .args in
-    let xs = t .part .now in
-    let last = length xs - 1 in
-    let k = end .place-of2 .result in
-    let p = at-loop (end .before .before) .pre .0 in
-    let whole : l .i ≡ last = omega arith in
-    let here : c .between .result ≡ T (t .first) (t .step) xs (360 + k) =
-    c .between .ensures
-    ∙ ap (λ (x : ℕ). (t .step - 0) * x + 0 * 0) (wide .wide .ensures .0)
-    ∙ (let none : (t .step - 0) * getD xs last 0 + 0 * 0 ≡ (t .step - 0) * getD xs last 0 + 0 * getD xs (last + 1) 0 = omega arith in none)
-    ∙ walk-at (t .first) (t .step) xs last 0 k (omega arith) (omega arith) (omega arith) in
-    let laid : LaidTo (t .first) (t .step) xs (l .row) k =
-    (let e : k ≡ t .first + t .step * l .i - 360 = rw whole (omega arith) in rw e (l .inv .2)) in
-    let after : t .first + t .step * last - 360 + 1 ≡ k + 1 = omega arith in
-    rw after (fill-more 471 _ (l .row) k (c .between .result) laid (omega arith) here)
+    let l = c .before .loop in
+    let last : length (at-loop (c .before) .args .part .now) - 1 ≡ l .i = omega arith in
+    rw last (l .inv .2)
 
 pub walk-spec : {M : Type 1} → statement M
 walk-spec =
@@ -104,14 +76,4 @@ walk-spec =
     (λ c. omega arith)
     (λ c. omega arith)
     loop-again
-    cast-place-of
-    (λ c. omega arith)
-    (λ c. omega arith)
-    (λ c κs. tt)
-    (λ c. omega arith)
-    (λ c. omega arith)
-    (λ c κs. tt)
-    (λ c κs. omega arith)
-    (λ c. omega arith)
-    (λ c. omega arith)
     returns)
