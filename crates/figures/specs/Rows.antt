@@ -30,6 +30,10 @@ at460 v = lone 401 80 v
 abbrev at485 : ℕ → List ℕ
 at485 v = lone 401 105 v
 
+-- n samples, all 0 but 1,000,000 at the first and at the last
+abbrev litEnds : ℕ → List ℕ
+litEnds n = 1000000 ∷ lone (n - 1) (n - 2) 1000000
+
 -- from 360 to 830 nm at step 1, all at the limit
 abbrev fullLight : List ℕ
 fullLight = replicate 471 1000000
@@ -89,7 +93,27 @@ rows =
     -- our own: lit at 355 nm alone, at step 10, which pulls on the line that crosses 360
     ∷ gives (xyz 2 355 10 (lone 44 0 1000000)) (157 ∷ 5 ∷ 733 ∷ [])
     ∷ gives (xyz 10 355 10 (lone 44 0 1000000)) (0 ∷ 0 ∷ 1 ∷ [])
-    -- our own: 1,000,000 at each of 360 to 830, the most that any light can have
+    -- our own: lit at 300 to 350 nm alone, at step 10, which reaches no 360
+    ∷ refuses (xy 2 300 10 (replicate 6 1000000 ++ replicate 48 0)) 9 0
+    -- our own: both ends lit, from 380 to 780, where they are carried to 360 and to 830, and from 300 to 830, where they aren't
+    ∷ gives (scotopic 380 1 (litEnds 401)) (1002 ∷ [])
+    ∷ gives (mesopic 500 380 1 (litEnds 401)) (552 ∷ [])
+    ∷ gives (xyz 2 380 1 (litEnds 401)) (8055 ∷ 372 ∷ 35939 ∷ [])
+    ∷ gives (xyz 10 380 1 (litEnds 401)) (761 ∷ 187 ∷ 1771 ∷ [])
+    ∷ gives (xy 2 380 1 (litEnds 401)) (18156 ∷ 839 ∷ [])
+    ∷ gives (scotopic 380 10 (litEnds 41)) (8489 ∷ [])
+    ∷ gives (xyz 2 380 10 (litEnds 41)) (14478 ∷ 611 ∷ 65458 ∷ [])
+    ∷ gives (xyz 10 380 10 (litEnds 41)) (2591 ∷ 422 ∷ 9275 ∷ [])
+    ∷ gives (xyz 2 300 1 (litEnds 531)) (1 ∷ 0 ∷ 0 ∷ [])
+    ∷ gives (xyz 2 300 10 (litEnds 54)) (6 ∷ 2 ∷ 0 ∷ [])
+    ∷ gives (xyz 10 300 10 (litEnds 54)) (7 ∷ 3 ∷ 0 ∷ [])
+    -- our own: the last sample alone lit, whose carried tail reaches 830, and the first alone, carried down to 360
+    ∷ gives (xyz 2 380 1 (lone 401 400 1000000)) (408 ∷ 147 ∷ 0 ∷ [])
+    ∷ gives (xy 2 380 1 (lone 401 400 1000000)) (73469 ∷ 26531 ∷ [])
+    ∷ gives (xyz 2 380 10 (lone 41 40 1000000)) (575 ∷ 208 ∷ 0 ∷ [])
+    ∷ gives (xyz 2 380 1 (lone 401 0 1000000)) (7647 ∷ 225 ∷ 35939 ∷ [])
+    ∷ gives (xyz 2 380 10 (lone 41 0 1000000)) (13903 ∷ 403 ∷ 65458 ∷ [])
+    -- our own: 1,000,000 at each of 360 to 830, the most that any light can have; and from 380 to 780, which has no less
     ∷ gives (photopic 360 1 fullLight) (72983274 ∷ [])
     ∷ gives (scotopic 360 1 fullLight) (165021238 ∷ [])
     ∷ gives (photopic10 360 1 fullLight) (79796724 ∷ [])
@@ -98,10 +122,18 @@ rows =
     ∷ gives (mesopic 1000 360 1 fullLight) (72983274 ∷ [])
     ∷ gives (xyz 2 360 1 fullLight) (72989116 ∷ 72983274 ∷ 73007408 ∷ [])
     ∷ gives (xyz 10 360 1 fullLight) (79787587 ∷ 79796724 ∷ 79805003 ∷ [])
-    -- our own: a full white panel for observer 10, and a panel's refusals
+    ∷ gives (xyz 2 380 10 (replicate 41 1000000)) (72989116 ∷ 72983274 ∷ 73007408 ∷ [])
+    -- our own: a full white panel for observer 10, and its x and y
     ∷ gives (panelXyz 10 1 360 1 (replicate 471 10000)) (111144 ∷ 100000 ∷ 35200 ∷ [])
     ∷ gives (panelXyz 10 2 360 1 (replicate 471 10000)) (94811 ∷ 100000 ∷ 107305 ∷ [])
     ∷ gives (panelXy 2 2 360 1 (replicate 471 10000)) (31273 ∷ 32902 ∷ [])
+    -- our own: a white panel from 380 to 780 at each step, which has the full one's X, Y, Z, and a grey one of 1234
+    ∷ gives (panelXyz 2 1 380 1 (replicate 401 10000)) (109850 ∷ 100000 ∷ 35585 ∷ [])
+    ∷ gives (panelXyz 2 2 380 2 (replicate 201 10000)) (95047 ∷ 100000 ∷ 108883 ∷ [])
+    ∷ gives (panelXyz 10 1 380 5 (replicate 81 10000)) (111144 ∷ 100000 ∷ 35200 ∷ [])
+    ∷ gives (panelXyz 10 2 380 10 (replicate 41 10000)) (94811 ∷ 100000 ∷ 107305 ∷ [])
+    ∷ gives (panelXyz 10 2 380 10 (replicate 41 1234)) (11700 ∷ 12340 ∷ 13241 ∷ [])
+    -- our own: a panel's refusals
     ∷ refuses (panelXyz 3 3 360 1 (replicate 471 10000)) 6 0
     ∷ refuses (panelXyz 2 3 360 1 (replicate 471 10000)) 7 0
     ∷ refuses (panelXyz 2 1 360 1 (lone 471 470 10001)) 8 470

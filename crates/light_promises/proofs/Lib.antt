@@ -1,6 +1,6 @@
 -- Laws of mixed, ordered and dark lights, of the range, and of panels.
 pub mod Instances
+pub mod Constant
 pub mod Unlit
-pub mod Full
 pub mod Range
 pub mod White

@@ -3,12 +3,13 @@ use mathlib.Core.Path.{_≡_, refl, sym}
 use mathlib.Core.Bool.{true}
 use mathlib.Core.List.{List, [], _∷_}
 use Prim.Native.Nat.{ℕ, zero, suc, _+_, _*_, _-_, _^_, _≤_, zero-le}
-use native.Mathlib.Nat.{mul-add, mul-assoc, mul-left-comm, mul-le-mul-left, add-le-add}
+use native.Mathlib.Nat.{le-refl, mul-add, mul-assoc, mul-left-comm, mul-le-mul-left, add-le-add}
 use native.Mathlib.Omega.{arith}
 use borrow.Author.Tests.{le-leb}
-use lib.ListN.{getD}
+use lib.ListN.{getD, replicate}
 use Rattle.grid.specs.declared.Check.the-variants.{Fine}
-use Rattle.grid.specs.Check.{isObserver, isStep, lightCheck}
+use Rattle.grid.specs.Check.{isObserver, gridCheck, lightCheck}
+use Rattle.grid.proofs.Accepted.{accepted}
 use Rattle.grid.proofs.Light.{within, on-grid}
 use Rattle.mixing.specs.Nearest.{nearest}
 use Rattle.mixing.proofs.Nearest.{nearest-cancel, nearest-scaled, nearest-lt}
@@ -24,8 +25,9 @@ use Rattle.curves.specs.Observer.{curvesOf}
 use Rattle.readings.specs.Readings.{efficacyOf, millilux, illuminanceOf, mesopicOf, mesopicSum, mesopicMillilux, xyzOf, xyOf, chartOf, figuresOf}
 use Rattle.readings.specs.Figures.{saidFigures}
 use Rattle.readings.proofs.Small.{weighed-most}
-use Rattle.light_promises.specs.Range.{full, Greatest, mesopicGreatest, Coordinates}
-use Rattle.light_promises.proofs.Full.{step-some, light-accepted, light-sum, at-limit, no-more}
+use Rattle.spectrum.proofs.Constant.{W-constant}
+use Rattle.light_promises.specs.Range.{Greatest, mesopicGreatest, Coordinates}
+use Rattle.light_promises.proofs.Constant.{light-accepted, nearest-constant, no-more}
 
 module _ (c : Curve) where
   abbrev greatest : ℕ
@@ -33,10 +35,15 @@ module _ (c : Curve) where
 
   millilux-most : (a s : ℕ) (xs : List ℕ) → lightCheck a s xs ≡ Fine → millilux c a s xs ≤ greatest
   millilux-most a s xs fine =
-      rw (column-total c) at (no-more (weightOf c) (efficacyOf c) (10 ^ 16) 1000000 s (on-grid a s xs fine .step-low) a xs (within a s xs fine))
+      rw (column-total c) at (no-more (weightOf c) (efficacyOf c) (10 ^ 16) s 1000000 a xs (on-grid a s xs fine .step-low) (within a s xs fine))
 
-  millilux-full : (s : ℕ) → isStep s ≡ true → millilux c 360 s (full 1000000 s) ≡ greatest
-  millilux-full s e = rw (column-total c) at (at-limit (weightOf c) (efficacyOf c) (10 ^ 16) 1000000 s (step-some s e) (light-sum (weightOf c) s e))
+  millilux-full : (a s n : ℕ) → gridCheck a s n ≡ Fine → millilux c a s (replicate n 1000000) ≡ greatest
+  millilux-full a s n fine =
+      rw (column-total c) at (nearest-constant (weightOf c) (efficacyOf c) (10 ^ 16) s 1000000 a n (accepted a s n fine))
+
+-- a light at the limit at every sample
+full-accepted : (a s n : ℕ) → gridCheck a s n ≡ Fine → lightCheck a s (replicate n 1000000) ≡ Fine
+full-accepted a s n = light-accepted a s n 1000000 (le-refl 1000000)
 
 -- one value, or three, each at most another
 one : {n m : ℕ} → n ≤ m → (i : ℕ) → getD (n ∷ []) i 0 ≤ getD (m ∷ []) i 0
@@ -53,7 +60,7 @@ unfolding illuminanceOf
 illuminance-range c = record {
   is-given = λ a s xs fine. rw fine;
   at-most = λ a s xs fine. rw fine (one (millilux-most c a s xs fine));
-  attained = λ s e. rw (light-accepted s e, millilux-full c s e);
+  attained = λ a s n fine. rw (full-accepted a s n fine, millilux-full c a s n fine);
 }
 
 pub xyz-range :
@@ -67,7 +74,8 @@ xyz-range o t =
     record {
       is-given = λ a s xs fine. rw (t, fine);
       at-most = λ a s xs fine. rw (t, fine) (three (millilux-most x a s xs fine) (millilux-most y a s xs fine) (millilux-most z a s xs fine));
-      attained = λ s e. rw (t, light-accepted s e, millilux-full x s e, millilux-full y s e, millilux-full z s e);
+      attained = λ a s n fine.
+          rw (t, full-accepted a s n fine, millilux-full x a s n fine, millilux-full y a s n fine, millilux-full z a s n fine);
     }
 
 -- s is a factor of the whole
@@ -97,11 +105,13 @@ module _ (k : ℕ) where
       let all = rw (factor 683000 s day night) at (mul-le-mul-left 683000 (add-le-add by-day by-night)) in
       rw (mul-assoc s (10 ^ 16) bracket) (nearest-scaled s (mesopicSum k a s xs) (683000 * (day + night)) (10 ^ 16 * bracket) low all)
 
-  mesopic-full : (s : ℕ) → isStep s ≡ true → mesopicMillilux k 360 s (full 1000000 s) ≡ greatestAt
-  mesopic-full s e =
+  mesopic-full : (a s n : ℕ) → gridCheck a s n ≡ Fine → mesopicMillilux k a s (replicate n 1000000) ≡ greatestAt
+  mesopic-full a s n fine =
+      let on = accepted a s n fine in
+      let sum = W-constant a s n 1000000 (on .step-low) (on .some) in
       rw (
-        light-sum (weightOf YBar) s e,
-        light-sum (weightOf VPrime) s e,
+        sum (weightOf YBar),
+        sum (weightOf VPrime),
         column-total YBar,
         column-total VPrime,
         mul-left-comm k s (1000000 * tableSum YBar),
@@ -109,10 +119,11 @@ module _ (k : ℕ) where
         factor 683000 s day night,
         mul-assoc s (10 ^ 16) bracket,
       )
-      (nearest-cancel s (683000 * (day + night)) (10 ^ 16 * bracket) (step-some s e))
+      (nearest-cancel s (683000 * (day + night)) (10 ^ 16 * bracket) (on .step-low))
 
   mesopic-is : mesopicGreatest k ≡ greatestAt
-  mesopic-is = mesopic-full 1 refl
+  unfolding gridCheck
+  mesopic-is = mesopic-full 360 1 471 refl
 
   pub mesopic-range : k ≤ 1000 → Greatest (λ a s xs. saidReading (mesopicOf k a s xs)) (mesopicGreatest k ∷ [])
   unfolding mesopicOf
@@ -121,7 +132,7 @@ module _ (k : ℕ) where
       record {
         is-given = λ a s xs fine. rw (t, fine);
         at-most = λ a s xs fine. rw (t, fine, mesopic-is) (one (mesopic-most a s xs fine));
-        attained = λ s e. rw (t, light-accepted s e, mesopic-is, mesopic-full s e);
+        attained = λ a s n fine. rw (t, full-accepted a s n fine, mesopic-is, mesopic-full a s n fine);
       }
 
 pub mesopic-0 : mesopicGreatest 0 ≡ 164924650

@@ -1,15 +1,17 @@
 -- Where no light meets a curve's weights, its sum is 0: the illuminances are 0, the coordinates dark.
 use mathlib.Core.Path.{_≡_, refl}
 use mathlib.Core.Bool.{true}
-use mathlib.Core.List.{List}
-use Prim.Native.Nat.{ℕ, zero, suc, _+_, _*_, _-_, _≤_, zero-le}
-use native.Mathlib.Nat.{mul-zero}
+use mathlib.Core.List.{List, _++_}
+use Prim.Native.Nat.{ℕ, _+_, _*_, _-_, _≤_, _<_, zero-le}
+use native.Mathlib.Nat.{lt-of-mul-lt-mul-left, mul-zero}
+use native.Mathlib.Omega.{arith}
 use borrow.Author.Tests.{le-leb}
-use lib.ListN.{getD, replicate, length-replicate}
-use Rattle.grid.specs.Refusals.{SAMPLE, DARK}
+use lib.ListN.{length, replicate}
+use lib.Seq.{drop-append-seam}
+use Rattle.grid.specs.Refusals.{DARK}
 use Rattle.grid.specs.declared.Check.the-variants.{Fine}
-use Rattle.grid.specs.Check.{refusal, isObserver, gridCheck, samplesCheck, lightCheck}
-use Rattle.grid.proofs.Limit.{within-fine}
+use Rattle.grid.specs.Check.{refusal, isObserver, gridCheck, lightCheck}
+use Rattle.grid.proofs.Light.{on-grid}
 use Rattle.mixing.specs.Sum.{weighted}
 use Rattle.mixing.proofs.Mixture.{linear-zeros}
 use Rattle.mixing.proofs.Sum.{total-none}
@@ -18,7 +20,7 @@ use Rattle.tables.specs.declared.Curve.{Curve}
 use Rattle.tables.specs.declared.Curve.the-variants.{YBar, VPrime}
 use Rattle.tables.specs.Curves.{weightOf}
 use Rattle.spectrum.specs.Line.{T, W}
-use Rattle.spectrum.proofs.Measured.{T-linear}
+use Rattle.spectrum.proofs.Measured.{T-from, T-linear}
 use Rattle.answers.specs.declared.OnChart.{OnChart}
 use Rattle.answers.specs.declared.Reading.{Reading}
 use Rattle.answers.specs.declared.XyzAnswer.{XyzAnswer}
@@ -29,20 +31,23 @@ use Rattle.curves.specs.Observer.{curvesOf}
 use Rattle.readings.specs.declared.figures.FiguresAnswer.{FiguresAnswer}
 use Rattle.readings.specs.Readings.{weighed, efficacyOf, illuminanceOf, mesopicOf, xyzOf, xyOf, chartOf, figuresOf}
 use Rattle.light_promises.specs.Lights.{Unlit, Colourless}
-
-getD-zeros : (n i : ℕ) → _≡_ {A = ℕ} (getD (replicate n 0) i 0) 0
-getD-zeros zero i = refl
-getD-zeros (suc n) zero = refl
-getD-zeros (suc n) (suc i) = getD-zeros n i
+use Rattle.light_promises.proofs.Constant.{light-accepted}
 
 pub zeros-accepted : (a s n : ℕ) → gridCheck a s n ≡ Fine → lightCheck a s (replicate n 0) ≡ Fine
-unfolding lightCheck
-zeros-accepted a s n fine =
-    let samples : samplesCheck (replicate n 0) ≡ Fine = within-fine SAMPLE 1000000 0 (replicate n 0) (λ k. rw (getD-zeros n k) zero-le) in
-    rw (length-replicate {A = ℕ} n 0, fine) samples
+zeros-accepted a s n = light-accepted a s n 0 zero-le
 
 pub zeros : (c : Curve) (a s n : ℕ) → Unlit c a s (replicate n 0)
 zeros c a s n k = rw (linear-zeros n (λ xs. T a s xs (360 + k)) (T-linear n a s (360 + k))) (mul-zero (weightOf c k))
+
+pub unfelt :
+    (c : Curve) (a s n : ℕ) (xs : List ℕ) → lightCheck a s (xs ++ replicate n 0) ≡ Fine → a + s * length xs ≤ 360 →
+    Unlit c a s (xs ++ replicate n 0)
+unfelt c a s n xs fine low k =
+    let all = xs ++ replicate n 0 in
+    let on = on-grid a s all fine in
+    let before : length xs < length all - 1 = lt-of-mul-lt-mul-left s (omega arith) in
+    rw (T-from a s all (length xs) (360 + k) (on .step-low) (omega arith) (omega arith), drop-append-seam xs (replicate n 0))
+    (zeros c (a + s * length xs) s n k)
 
 module _ (a s : ℕ) (xs : List ℕ) (fine : lightCheck a s xs ≡ Fine) where
   no-sum : (c : Curve) → Unlit c a s xs → weighed c a s xs ≡ 0

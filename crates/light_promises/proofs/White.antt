@@ -1,15 +1,17 @@
--- An accepted panel's X, Y, Z are given; none is above that of a full white panel, and they keep to the order of the reflectances.
-use mathlib.Core.Path.{_≡_, refl, sym}
+-- An accepted panel's X, Y, Z are given; none is above that of a white panel, and they keep to the order of the reflectances.
+use mathlib.Core.Path.{_≡_, refl, _∙_, sym}
 use mathlib.Core.Bool.{Bool, true, false}
 use mathlib.Core.List.{List, [], _∷_}
 use Prim.Native.Nat.{ℕ, _*_, _≤_}
+use native.Mathlib.Nat.{le-refl, mul-assoc}
 use lib.Dec.{eqb}
-use lib.ListN.{length, getD}
+use lib.ListN.{length, getD, replicate}
 use Rattle.grid.specs.declared.Check.the-variants.{Fine}
-use Rattle.grid.specs.Check.{isObserver, isStep}
 use Rattle.grid.specs.Said.{value, given}
+use Rattle.mixing.specs.Sum.{total}
 use Rattle.mixing.specs.Nearest.{nearest}
 use Rattle.mixing.specs.Mixture.{Below, Linear}
+use Rattle.mixing.proofs.Nearest.{nearest-whole}
 use Rattle.mixing.proofs.Mixture.{linear-times}
 use Rattle.tables.specs.declared.Curve.{Curve}
 use Rattle.tables.specs.Curves.{litBy}
@@ -20,14 +22,14 @@ use Rattle.spectrum.proofs.Measured.{W-linear}
 use Rattle.curves.specs.Observer.{curvesOf}
 use Rattle.answers.specs.Said.{saidXy, saidChart}
 use Rattle.answers.proofs.Mixed.{each-order}
-use Rattle.panel.specs.Panel.{isIlluminant, illuminantOf, settingCheck, panelCheck, whiteSum, panelXyzOf, panelXyOf, panelChartOf}
+use Rattle.panel.specs.Panel.{illuminantOf, settingCheck, panelCheck, whiteSum, panelXyzOf, panelXyOf, panelChartOf}
 use Rattle.panel.specs.Figures.{panelFiguresOf, saidPanelFigures}
-use Rattle.panel.proofs.Accepted.{on-grid, within}
-use Rattle.panel.proofs.Sized.{divisor-some}
+use Rattle.panel.proofs.Accepted.{setting-grid, on-grid, within}
+use Rattle.panel.proofs.Sized.{white-lit, divisor-some}
 use Rattle.light_promises.specs.Range.{Coordinates}
-use Rattle.light_promises.specs.Panels.{saidPanelXyz, fullWhite, whiteXyz}
+use Rattle.light_promises.specs.Panels.{saidPanelXyz, whiteXyz}
 use Rattle.light_promises.proofs.Range.{coordinates, three}
-use Rattle.light_promises.proofs.Full.{step-some, panel-accepted, panel-sum, at-limit, no-more}
+use Rattle.light_promises.proofs.Constant.{panel-accepted, nearest-constant, no-more}
 
 pub is-given : (o i a s : ℕ) (rs : List ℕ) → panelCheck o i a s rs ≡ Fine → saidPanelXyz o i a s rs .number ≡ 0
 unfolding panelXyzOf
@@ -72,7 +74,7 @@ module _ (o i : ℕ) where
       nearest (10 * W (litBy (illuminantOf i) c) a s rs) (s * whiteSum o i) ≤ greatest c
   xyz-most a s rs fine c =
       rw (lit-sum (illuminantOf i) c) at
-      (no-more (litBy (illuminantOf i) c) 10 (whiteSum o i) 10000 s (on-grid o i a s rs fine .step-low) a rs (within o i a s rs fine))
+      (no-more (litBy (illuminantOf i) c) 10 (whiteSum o i) s 10000 a rs (on-grid o i a s rs fine .step-low) (within o i a s rs fine))
 
   pub at-most : (a s : ℕ) (rs : List ℕ) → panelCheck o i a s rs ≡ Fine → (k : ℕ) → value (saidPanelXyz o i a s rs) k ≤ getD (whiteXyz o i) k 0
   unfolding panelXyzOf
@@ -80,21 +82,35 @@ module _ (o i : ℕ) where
       let most = xyz-most a s rs fine in
       rw (fine, sym white-xyz) (three (most (curvesOf o .x)) (most (curvesOf o .y)) (most (curvesOf o .z)))
 
-  xyz-full :
-      (s : ℕ) → isStep s ≡ true → (c : Curve) →
-      nearest (10 * W (litBy (illuminantOf i) c) 360 s (fullWhite s)) (s * whiteSum o i) ≡ greatest c
-  xyz-full s e c =
-      rw (lit-sum (illuminantOf i) c) at
-      (at-limit (litBy (illuminantOf i) c) 10 (whiteSum o i) 10000 s (step-some s e) (panel-sum (litBy (illuminantOf i) c) s e))
+  -- of a panel of reflectance r throughout
+  xyz-constant :
+      (a s n r : ℕ) → settingCheck o i a s n ≡ Fine → (c : Curve) →
+      nearest (10 * W (litBy (illuminantOf i) c) a s (replicate n r)) (s * whiteSum o i)
+      ≡ nearest (10 * (r * total 471 (litBy (illuminantOf i) c))) (whiteSum o i)
+  xyz-constant a s n r fine c = nearest-constant (litBy (illuminantOf i) c) 10 (whiteSum o i) s r a n (setting-grid o i a s n fine)
 
-  pub white :
-      (s : ℕ) → isObserver o ≡ true → isIlluminant i ≡ true → isStep s ≡ true →
-      saidPanelXyz o i 360 s (fullWhite s) ≡ given (whiteXyz o i) []
-  unfolding panelXyzOf panelCheck settingCheck
-  white s p q r =
-      let fine = panel-accepted s r in
-      let is = xyz-full s r in
-      rw (p, q, fine, is (curvesOf o .x), is (curvesOf o .y), is (curvesOf o .z), white-xyz)
+  pub white : (a s n : ℕ) → settingCheck o i a s n ≡ Fine → saidPanelXyz o i a s (replicate n 10000) ≡ given (whiteXyz o i) []
+  unfolding panelXyzOf
+  white a s n fine =
+      let is : (c : Curve) → nearest (10 * W (litBy (illuminantOf i) c) a s (replicate n 10000)) (s * whiteSum o i) ≡ greatest c =
+      (λ c. rw (lit-sum (illuminantOf i) c) at (xyz-constant a s n 10000 fine c)) in
+      rw (
+        panel-accepted o i a s n 10000 (le-refl 10000) fine,
+        is (curvesOf o .x),
+        is (curvesOf o .y),
+        is (curvesOf o .z),
+        white-xyz,
+      )
+
+  pub grey :
+      (a s n r : ℕ) → settingCheck o i a s n ≡ Fine → r ≤ 10000 →
+      (saidPanelXyz o i a s (replicate n r) .number ≡ 0) × (value (saidPanelXyz o i a s (replicate n r)) 1 ≡ 10 * r)
+  unfolding panelXyzOf whiteSum
+  grey a s n r fine h =
+      let is = panel-accepted o i a s n r h fine in
+      let y : nearest (10 * (r * whiteSum o i)) (whiteSum o i) ≡ 10 * r =
+      rw (sym (mul-assoc 10 r (whiteSum o i))) (nearest-whole (10 * r) (whiteSum o i) (white-lit o i)) in
+      (rw is, rw is (xyz-constant a s n r fine (curvesOf o .y) ∙ y))
 
 module _ (o i a s n : ℕ) where
   ten-linear : (c : Curve) → Linear n (λ rs. 10 * W (litBy (illuminantOf i) c) a s rs)

@@ -1,7 +1,7 @@
 -- What is promised of mixed light, of light in order, of darkness and of the mesopic reading by day, said of these readings.
 use mathlib.Core.Path.{_≡_}
 use mathlib.Core.Bool.{true}
-use mathlib.Core.List.{List, [], _∷_}
+use mathlib.Core.List.{List, [], _∷_, _++_}
 use Prim.Native.Nat.{ℕ, _+_, _*_, _≤_}
 use lib.ListN.{length, replicate}
 use Rattle.grid.specs.Refusals.{DARK}
@@ -101,6 +101,10 @@ pub record Darkness : Type 0 where
   -- a room with no light is accepted on every accepted grid, and has no light where any curve has weight
   pub accepted : (a s n : ℕ) → gridCheck a s n ≡ Fine → lightCheck a s (replicate n 0) ≡ Fine
   pub zeros : (c : Curve) (a s n : ℕ) → Unlit c a s (replicate n 0)
+  -- nor has light only in samples that no nanometre from 360 on feels: it is dark from a sample at or below 360 on
+  pub unfelt :
+      (c : Curve) (a s n : ℕ) (xs : List ℕ) → lightCheck a s (xs ++ replicate n 0) ≡ Fine → a + s * length xs ≤ 360 →
+      Unlit c a s (xs ++ replicate n 0)
   pub photopic : (a s : ℕ) (xs : List ℕ) → lightCheck a s xs ≡ Fine → Unlit YBar a s xs → saidReading (photopicOf a s xs) ≡ nought
   pub scotopic : (a s : ℕ) (xs : List ℕ) → lightCheck a s xs ≡ Fine → Unlit VPrime a s xs → saidReading (scotopicOf a s xs) ≡ nought
   pub photopic-10 :

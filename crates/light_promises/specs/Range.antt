@@ -2,10 +2,10 @@
 use mathlib.Core.Path.{_≡_}
 use mathlib.Core.Bool.{true}
 use mathlib.Core.List.{List, [], _∷_}
-use Prim.Native.Nat.{ℕ, _+_, _*_, _/_, _≤_, _<_}
+use Prim.Native.Nat.{ℕ, _*_, _≤_, _<_}
 use lib.ListN.{getD, replicate}
 use Rattle.grid.specs.declared.Check.the-variants.{Fine}
-use Rattle.grid.specs.Check.{Within, isObserver, isStep, lightCheck}
+use Rattle.grid.specs.Check.{Within, isObserver, gridCheck, lightCheck}
 use Rattle.grid.specs.Said.{Said, value, given}
 use Rattle.mixing.specs.Sum.{total}
 use Rattle.spectrum.specs.Line.{W}
@@ -14,20 +14,16 @@ use Rattle.readings.specs.Readings.{photopicOf, scotopicOf, photopic10Of, mesop
 use Rattle.readings.specs.Figures.{saidFigures}
 use Rattle.light_promises.specs.Lights.{Answer, IsDark}
 
--- a row at its limit, from 360 to 830 at any step
-abbrev pub full : ℕ → ℕ → List ℕ
-full limit s = replicate (470 / s + 1) limit
-
--- every accepted light has this answer, none of its values is above these, and the light of 1,000,000 from 360 to 830 has just
--- these, whatever the step
+-- every accepted light has this answer, none of its values is above these, and the light of 1,000,000 at every sample has just
+-- these, on any accepted grid
 pub record Greatest (answer : Answer) (values : List ℕ) : Type 0 where
   pub is-given : (a s : ℕ) (xs : List ℕ) → lightCheck a s xs ≡ Fine → answer a s xs .number ≡ 0
   pub at-most : (a s : ℕ) (xs : List ℕ) → lightCheck a s xs ≡ Fine → (i : ℕ) → value (answer a s xs) i ≤ getD values i 0
-  pub attained : (s : ℕ) → isStep s ≡ true → answer 360 s (full 1000000 s) ≡ given values []
+  pub attained : (a s n : ℕ) → gridCheck a s n ≡ Fine → answer a s (replicate n 1000000) ≡ given values []
 
--- the mesopic reading at k of that light, at step 1
+-- the mesopic reading at k of that light, from 360 to 830 at step 1
 abbrev pub mesopicGreatest : ℕ → ℕ
-mesopicGreatest k = mesopicMillilux k 360 1 (full 1000000 1)
+mesopicGreatest k = mesopicMillilux k 360 1 (replicate 471 1000000)
 
 -- given, unless it is refused as dark
 abbrev pub GivenUnlessDark : Said → Type 0

@@ -44,6 +44,13 @@ nearest-bound c n (suc d) h =
     let less : nearest n (suc d) < c + 1 = nearest-lt n (suc d) pos (c + 1) .1 (omega arith) in
     omega arith
 
+-- the nearest of a whole number is that number
+pub nearest-whole : (q d : ℕ) → 0 < d → nearest (q * d) d ≡ q
+nearest-whole q d pos =
+    let most = nearest-bound q (q * d) d (le-refl (q * d)) in
+    let least = le-nearest (q * d) d pos q .1 (omega arith) in
+    omega arith
+
 -- more over the same is no less
 nearest-mono : (n m d : ℕ) → n ≤ m → nearest n d ≤ nearest m d
 nearest-mono n m zero h = rw (nearest-zero n, nearest-zero m) zero-le

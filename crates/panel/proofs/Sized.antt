@@ -36,6 +36,9 @@ module _ (o i : ℕ) where
       computed false true = lit≤ tt
       computed false false = lit≤ tt
 
+  pub white-lit : 0 < whiteSum o i
+  white-lit = let some = white-some in omega arith
+
   pub divisor-small : (s : ℕ) → s ≤ 10 → whiteSum o i * s + 0 < 2 ^ 96
   unfolding whiteSum
   divisor-small s h =
@@ -59,7 +62,7 @@ module _ (o i a s : ℕ) (rs : List ℕ) (fine : panelCheck o i a s rs ≡ Fine)
       omega arith
 
   pub divisor-some : 0 < s * whiteSum o i
-  divisor-some = let white = white-some o i in let some : 0 < whiteSum o i = omega arith in mul-pos (on-grid o i a s rs fine .step-low) some
+  divisor-some = mul-pos (on-grid o i a s rs fine .step-low) (white-lit o i)
 
   -- no curve's sum under an illuminant is five times the white sum
   panel-fits : (c : Curve) → Fits (10 * W (litBy (illuminantOf i) c) a s rs) (s * whiteSum o i)

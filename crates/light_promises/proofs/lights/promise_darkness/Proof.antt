@@ -3,7 +3,7 @@ use mathlib.Core.Path.{ap}
 use Rattle.tables.specs.declared.Curve.the-variants.{YBar, VPrime, YBar10}
 use Rattle.answers.specs.Said.{saidReading, saidXyz, saidXy, saidChart}
 use Rattle.readings.specs.Figures.{saidFigures}
-use Rattle.light_promises.proofs.Unlit.{zeros-accepted, zeros, no-illuminance, no-mesopic, no-xyz, no-xy, no-point, no-figures}
+use Rattle.light_promises.proofs.Unlit.{zeros-accepted, zeros, unfelt, no-illuminance, no-mesopic, no-xyz, no-xy, no-point, no-figures}
 use Rattle.light_promises.proofs.lights.promise_darkness.Statement.{statement}
 use Rattle.light_promises.proofs.lights.promise_darkness.Tie as tie
 
@@ -12,6 +12,7 @@ returns c =
     record {
       accepted = zeros-accepted;
       zeros = zeros;
+      unfelt = unfelt;
       photopic = λ a s xs f u. ap saidReading (no-illuminance a s xs f YBar u);
       scotopic = λ a s xs f u. ap saidReading (no-illuminance a s xs f VPrime u);
       photopic-10 = λ a s xs f u. ap saidReading (no-illuminance a s xs f YBar10 u);
