@@ -37,7 +37,7 @@ pub record Panels : Type 0 where
   pub grey :
       (o i a s n r : ℕ) → settingCheck o i a s n ≡ Fine → r ≤ 10000 →
       (saidPanelXyz o i a s (replicate n r) .number ≡ 0) × (value (saidPanelXyz o i a s (replicate n r)) 1 ≡ 10 * r)
-  -- its x, y and chart's point are given unless they are dark, and its figures in one call always
+  -- an accepted panel's x, y and chart's point are given unless they are dark, and its figures in one call always
   pub xy :
       (o i a s : ℕ) (rs : List ℕ) → panelCheck o i a s rs ≡ Fine →
       Coordinates (saidXy (panelXyOf o i a s rs)) (saidChart (panelChartOf o i a s rs))

@@ -17,7 +17,7 @@ use answers::work::xyz_from;
 ghost use mathlib.Core.Path.{_≡_};
 ghost use Rattle.panel.specs.Panel.{panelXyzOf, panelXyOf, panelChartOf};
 
-// X, Y and Z in thousandths: Y of a full white panel is 100000.
+// X, Y and Z in thousandths: Y of a white panel is 100000.
 pub fn panel_xyz(
     observer: u32,
     illuminant: u32,

@@ -1,5 +1,5 @@
--- Laws of the end rule, and the only file that opens it: its two values and its bound, that it is linear in the row and the same
--- from a sample in the middle of the row on, and what it is of a constant row.
+-- Laws of the end rule, and the only ones that open it: its two values and its bound, that it is linear in the row and the same
+-- from a sample in the middle of the row on, and what it is of a constant row, so 0 of a zero row.
 use mathlib.Core.Path.{_≡_, _∙_, sym, ap}
 use mathlib.Core.Bool.{Bool, true, false, cond}
 use mathlib.Core.List.{List}

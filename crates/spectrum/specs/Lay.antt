@@ -1,5 +1,4 @@
--- What a part must be to be laid, the row that T is laid over, and how far it is: no promise to a caller rests on the reading
--- of this.
+-- T as a row, what a part must be to be laid, and how far it is laid: no promise to a caller rests on the reading of this.
 use mathlib.Core.Path.{_≡_}
 use mathlib.Core.Bool.{true}
 use mathlib.Core.List.{List, [], _∷_}
@@ -28,7 +27,7 @@ pub record Part (a s n : ℕ) : Type 0 where
   pub last-low : 780 ≤ a + s * (n - 1)
   pub last-high : a + s * (n - 1) ≤ 830
 
--- at the places from low to below high T is the end rule's, and the same
+-- at the places from low to below high T is what the end rule has at the first of them
 abbrev pub AtEnd : ℕ → ℕ → List ℕ → ℕ → ℕ → Type 0
 AtEnd a s xs low high = (q : ℕ) → low ≤ q → q < high → T a s xs (360 + q) ≡ endRule a s xs (360 + low)
 

@@ -1,4 +1,4 @@
-// The end rule, T outside the measured range: the first sample is carried down to 360 nm, and the last one up to 830.
+// The end rule: outside the measured range the first sample is carried down to 360 nm, and the last one up to 830.
 ghost use mathlib.Core.Path.{_≡_};
 ghost use Prim.Native.Nat.{_*_, _≤_};
 ghost use lib.ListN.{length};
@@ -16,7 +16,7 @@ pub fn lay_end(first: u32, step: u32, part: &[u32], low: usize, high: usize, row
     }
 }
 
-// The value at a wavelength, of which only the side is told from the other.
+// T at a wavelength outside the measured range: s times the first sample below it, and s times the last one above it.
 fn end_rule(first: u32, step: u32, part: &[u32], wavelength: u32) -> u64
     requires { ⌜ Part first step (length (now part)) ⌝ }
     ensures { λ r. ⌜ r ≡ endRule first step (now (part .entry)) wavelength ⌝ }

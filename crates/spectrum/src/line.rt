@@ -1,4 +1,4 @@
-// T, the straight line through the samples times the step, laid out as a row of 471 places from 360 to 830 nm.
+// T laid out as a row of 471 places from 360 to 830 nm: the straight line through the samples, and what is carried beyond them.
 use crate::ends::lay_end;
 use crate::walk::copy;
 use crate::walk::place_of;
