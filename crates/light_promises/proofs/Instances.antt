@@ -21,7 +21,9 @@ use Rattle.grid.proofs.Light.{grid-fine, on-grid}
 use Rattle.answers.specs.Said.{saidReading, saidXyz, saidXy}
 use Rattle.curves.specs.Observer.{curvesOf}
 use Rattle.answers.proofs.Mixed.{AllLinear, each-unit, each-order, xy-between, xy-one-dark}
-use Rattle.readings.specs.Readings.{weighed, efficacyOf, illuminanceOf, mesopicOf, mesopicSum, mesopicDivisor, xyzOf, xyOf}
+use Rattle.readings.specs.Readings.{weighed, efficacyOf, illuminanceOf, mesopicWeighed, mesopicOf, xyzOf, xyOf}
+use Rattle.readings.specs.Sums.{mesopicDivisor}
+use Rattle.readings.proofs.Worked.{mesopic-is}
 use Rattle.readings.proofs.Small.{mesopic-fits}
 use Rattle.light_promises.specs.Lights.{Mixable, OneUnit, InOrder, BothLit, OneDark}
 
@@ -64,26 +66,32 @@ module _ (c : Curve) where
       (efficacy-linear (length xs) a s, tt) b)
 
 module _ (k : ℕ) (few : k ≤ 1000) where
-  mesopic-linear : (n a s : ℕ) → Linear n (λ xs. mesopicSum k a s xs)
+  mesopic-linear : (n a s : ℕ) → Linear n (λ xs. 683 * mesopicWeighed k a s xs)
   mesopic-linear n a s =
-      linear-times n 683000 (λ xs. k * weighed YBar a s xs + (1000 - k) * weighed VPrime a s xs)
+      linear-times n 683 (λ xs. k * weighed YBar a s xs + (1000 - k) * weighed VPrime a s xs)
       (linear-plus n (λ xs. k * weighed YBar a s xs) (λ xs. (1000 - k) * weighed VPrime a s xs)
       (linear-times n k (λ xs. weighed YBar a s xs) (curve-linear n YBar a s))
       (linear-times n (1000 - k) (λ xs. weighed VPrime a s xs) (curve-linear n VPrime a s)))
 
   pub mesopic-unit : OneUnit (λ a s xs. saidReading (mesopicOf k a s xs))
-  unfolding mesopicOf
   mesopic-unit a s xs ys m =
-      rw (le-leb k 1000 few, m .first, m .second, mixture-accepted a s xs ys m)
+      rw (
+        mesopic-is a s xs k,
+        mesopic-is a s ys k,
+        mesopic-is a s (mix xs ys) k,
+        le-leb k 1000 few,
+        m .first,
+        m .second,
+        mixture-accepted a s xs ys m,
+      )
       (each-unit (length xs) (mesopicDivisor k s) (mesopic-fits a s xs (m .first) k few .divisor) xs ys refl (sym (m .one-grid))
-      ((λ zs. mesopicSum k a s zs) ∷ []) (mesopic-linear (length xs) a s, tt))
+      ((λ zs. 683 * mesopicWeighed k a s zs) ∷ []) (mesopic-linear (length xs) a s, tt))
 
   pub mesopic-order : InOrder (λ a s xs. saidReading (mesopicOf k a s xs))
-  unfolding mesopicOf
   mesopic-order a s xs ys p q l b =
-      rw (le-leb k 1000 few, p, q)
-      (each-order (length xs) (mesopicDivisor k s) (mesopic-fits a s xs p k few .divisor) xs ys refl (sym l) ((λ zs. mesopicSum k a s zs) ∷ [])
-      (mesopic-linear (length xs) a s, tt) b)
+      rw (mesopic-is a s xs k, mesopic-is a s ys k, le-leb k 1000 few, p, q)
+      (each-order (length xs) (mesopicDivisor k s) (mesopic-fits a s xs p k few .divisor) xs ys refl (sym l)
+      ((λ zs. 683 * mesopicWeighed k a s zs) ∷ []) (mesopic-linear (length xs) a s, tt) b)
 
 module _ (o : ℕ) (t : isObserver o ≡ true) where
   abbrev colours : ℕ → ℕ → List (List ℕ → ℕ)

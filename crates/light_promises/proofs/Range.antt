@@ -1,9 +1,9 @@
 -- The greatest readings: no sum passes that of a light at the limit everywhere, whose readings are computed from the tables' sums.
-use mathlib.Core.Path.{_≡_, refl, sym}
+use mathlib.Core.Path.{_≡_, refl}
 use mathlib.Core.Bool.{true}
 use mathlib.Core.List.{List, [], _∷_}
 use Prim.Native.Nat.{ℕ, zero, suc, _+_, _*_, _-_, _^_, _≤_, zero-le}
-use native.Mathlib.Nat.{le-refl, mul-add, mul-assoc, mul-left-comm, mul-le-mul-left, add-le-add}
+use native.Mathlib.Nat.{le-refl, mul-left-comm, mul-le-mul-left}
 use native.Mathlib.Omega.{arith}
 use borrow.Author.Tests.{le-leb}
 use lib.ListN.{getD, replicate}
@@ -22,8 +22,10 @@ use Rattle.answers.specs.Worked.{xyFrom, onChart}
 use Rattle.answers.specs.Said.{saidReading, saidXyz, saidXy, saidOnChart, saidChart}
 use Rattle.answers.proofs.Values.{xy-unless-dark, xy-most, chart-number}
 use Rattle.curves.specs.Observer.{curvesOf}
-use Rattle.readings.specs.Readings.{efficacyOf, millilux, illuminanceOf, mesopicOf, mesopicSum, mesopicMillilux, xyzOf, xyOf, chartOf, figuresOf}
+use Rattle.readings.specs.Readings.{efficacyOf, millilux, illuminanceOf, mesopicOf, mesopicWeighed, mesopicMillilux, xyzOf, xyOf, chartOf, figuresOf}
 use Rattle.readings.specs.Figures.{saidFigures}
+use Rattle.readings.proofs.Setting.{mixed-times, mixed-order}
+use Rattle.readings.proofs.Worked.{mesopic-worked}
 use Rattle.readings.proofs.Small.{weighed-most}
 use Rattle.spectrum.proofs.Constant.{W-constant}
 use Rattle.light_promises.specs.Range.{Greatest, mesopicGreatest, Coordinates}
@@ -78,48 +80,42 @@ xyz-range o t =
           rw (t, full-accepted a s n fine, millilux-full x a s n fine, millilux-full y a s n fine, millilux-full z a s n fine);
     }
 
--- s is a factor of the whole
-factor : (f s m n : ℕ) → f * (s * m + s * n) ≡ s * (f * (m + n))
-factor f s m n = rw (sym (mul-add s m n)) (mul-left-comm f s (m + n))
-
 module _ (k : ℕ) where
-  -- the two parts of a light at the limit, over s
-  abbrev day : ℕ
-  day = k * (1000000 * tableSum YBar)
+  -- the sum of a light at the limit, and what it is divided by, both over s
+  abbrev full : ℕ
+  full = k * (1000000 * tableSum YBar) + (1000 - k) * (1000000 * tableSum VPrime)
 
-  abbrev night : ℕ
-  night = (1000 - k) * (1000000 * tableSum VPrime)
-
-  abbrev bracket : ℕ
-  bracket = 1000 * k + 402 * (1000 - k)
+  abbrev divisor : ℕ
+  divisor = k * 10 ^ 16 + (1000 - k) * 4020000000000000
 
   abbrev greatestAt : ℕ
-  greatestAt = nearest (683000 * (day + night)) (10 ^ 16 * bracket)
+  greatestAt = nearest (683 * full) divisor
 
   mesopic-most : (a s : ℕ) (xs : List ℕ) → lightCheck a s xs ≡ Fine → mesopicMillilux k a s xs ≤ greatestAt
   mesopic-most a s xs fine =
       let low = on-grid a s xs fine .step-low in
       let most = weighed-most a s xs low (within a s xs fine) in
-      let by-day = rw (mul-left-comm k s (1000000 * tableSum YBar)) at (mul-le-mul-left k (most YBar)) in
-      let by-night = rw (mul-left-comm (1000 - k) s (1000000 * tableSum VPrime)) at (mul-le-mul-left (1000 - k) (most VPrime)) in
-      let all = rw (factor 683000 s day night) at (mul-le-mul-left 683000 (add-le-add by-day by-night)) in
-      rw (mul-assoc s (10 ^ 16) bracket) (nearest-scaled s (mesopicSum k a s xs) (683000 * (day + night)) (10 ^ 16 * bracket) low all)
+      let sum = rw (mixed-times s k (1000 - k) (1000000 * tableSum YBar) (1000000 * tableSum VPrime)) at
+      (mixed-order k (1000 - k) (most YBar) (most VPrime)) in
+      let all = rw (mul-left-comm 683 s full) at (mul-le-mul-left 683 sum) in
+      rw (mesopic-worked k a s xs, mixed-times s k (1000 - k) (10 ^ 16) 4020000000000000)
+      (nearest-scaled s (683 * mesopicWeighed k a s xs) (683 * full) divisor low all)
 
   mesopic-full : (a s n : ℕ) → gridCheck a s n ≡ Fine → mesopicMillilux k a s (replicate n 1000000) ≡ greatestAt
   mesopic-full a s n fine =
       let on = accepted a s n fine in
       let sum = W-constant a s n 1000000 (on .step-low) (on .some) in
       rw (
+        mesopic-worked k a s (replicate n 1000000),
         sum (weightOf YBar),
         sum (weightOf VPrime),
         column-total YBar,
         column-total VPrime,
-        mul-left-comm k s (1000000 * tableSum YBar),
-        mul-left-comm (1000 - k) s (1000000 * tableSum VPrime),
-        factor 683000 s day night,
-        mul-assoc s (10 ^ 16) bracket,
+        mixed-times s k (1000 - k) (1000000 * tableSum YBar) (1000000 * tableSum VPrime),
+        mixed-times s k (1000 - k) (10 ^ 16) 4020000000000000,
+        mul-left-comm 683 s full,
       )
-      (nearest-cancel s (683000 * (day + night)) (10 ^ 16 * bracket) (on .step-low))
+      (nearest-cancel s (683 * full) divisor (on .step-low))
 
   mesopic-is : mesopicGreatest k ≡ greatestAt
   unfolding gridCheck
@@ -141,7 +137,7 @@ mesopic-0 = mesopic-is 0
 
 pub mesopic-any : (k : ℕ) → k ≤ 1000 → mesopicGreatest k ≤ mesopicGreatest 0
 mesopic-any k few =
-    let less = nearest-lt (683000 * (day k + night k)) (10 ^ 16 * bracket k) (omega arith) 164924651 .1 (omega arith) in
+    let less = nearest-lt (683 * full k) (divisor k) (omega arith) 164924651 .1 (omega arith) in
     rw (mesopic-0, mesopic-is k) (omega arith)
 
 -- the chart's point is dark where x and y are

@@ -2,8 +2,8 @@
 use mathlib.Core.Path.{_≡_, refl}
 use mathlib.Core.Bool.{Bool, true, false, cond}
 use mathlib.Core.List.{List}
-use Prim.Native.Nat.{ℕ, _+_, _*_, _-_, _^_, _≤_, _<_}
-use native.Mathlib.Nat.{mul-assoc, mul-pos, mul-le-mul, mul-le-mul-left, mul-le-mul-right}
+use Prim.Native.Nat.{ℕ, _*_, _-_, _^_, _≤_, _<_}
+use native.Mathlib.Nat.{le-refl, mul-assoc, mul-le-mul-left, mul-le-mul-right}
 use native.Mathlib.Omega.{arith}
 use lib.Dec.{eqb, lit≤}
 use Rattle.grid.specs.declared.Check.the-variants.{Fine}
@@ -19,7 +19,9 @@ use Rattle.tables.proofs.Columns.{column-total}
 use Rattle.tables.proofs.Sums.{table-sum-small}
 use Rattle.curves.specs.Observer.{curvesOf}
 use Rattle.spectrum.proofs.Light.{W-bound}
-use Rattle.readings.specs.Readings.{weighed, efficacyOf, mesopicWeighed, mesopicSum, mesopicDivisor, lightFigures}
+use Rattle.readings.specs.Readings.{weighed, efficacyOf, mesopicWeighed, lightFigures}
+use Rattle.readings.specs.Sums.{mesopicDivisor}
+use Rattle.readings.proofs.Setting.{mixed-order, mixed-same}
 
 module _ (a s : ℕ) (xs : List ℕ) (low : 1 ≤ s) (within : Within 1000000 xs) (c : Curve) where
   -- the sum of a light that is at the limit everywhere is the greatest
@@ -33,13 +35,6 @@ module _ (a s : ℕ) (xs : List ℕ) (low : 1 ≤ s) (within : Within 1000000 xs
       let few : s * (1000000 * tableSum c) ≤ s * (1000000 * 2000000000000000) = mul-le-mul-left s (mul-le-mul-left 1000000 (table-sum-small c)) in
       omega arith
 
--- the mesopic divisor passes no 96 bits as it is worked
-pub mesopic-divisor-small : (d f : ℕ) → d ≤ 100000000000000000 → f ≤ 1000000 → d * f + 0 < 2 ^ 96
-mesopic-divisor-small d f hd hf = let x : d * f ≤ 100000000000000000 * 1000000 = mul-le-mul hd hf in omega arith
-
-mesopic-ratio : (s w d : ℕ) → w ≤ s * 4000000000000000000000000 → s * 10 ^ 16 * 402000 ≤ d → 683000 * w ≤ 1000000000 * d
-mesopic-ratio s w d p q = omega arith
-
 efficacy-small : (c : Curve) → efficacyOf c ≤ 1700
 efficacy-small XBar = lit≤ tt
 efficacy-small YBar = lit≤ tt
@@ -48,6 +43,10 @@ efficacy-small XBar10 = lit≤ tt
 efficacy-small YBar10 = lit≤ tt
 efficacy-small ZBar10 = lit≤ tt
 efficacy-small VPrime = lit≤ tt
+
+mesopic-ratio :
+    (s w d : ℕ) → w ≤ 1000 * (s * 2000000000000000000000) → 1000 * (s * 4020000000000000) ≤ d → 683 * w ≤ 1000000000 * d
+mesopic-ratio s w d p q = omega arith
 
 -- an observer's three curves have one efficacy
 pub one-efficacy :
@@ -87,16 +86,11 @@ module _ (a s : ℕ) (xs : List ℕ) (fine : lightCheck a s xs ≡ Fine) where
       let fits = millilux-fits in
       (fits YBar .most, fits VPrime .most, fits XBar .most, fits YBar .most, fits ZBar .most)
 
-  pub mesopic-fits : (k : ℕ) → k ≤ 1000 → Fits (mesopicSum k a s xs) (mesopicDivisor k s)
+  pub mesopic-fits : (k : ℕ) → k ≤ 1000 → Fits (683 * mesopicWeighed k a s xs) (mesopicDivisor k s)
   mesopic-fits k few =
       let some = step-some in
-      let scale : 0 < s * 10 ^ 16 = omega arith in
-      let bracket : 402000 ≤ 1000 * k + 402 * (1000 - k) = omega arith in
-      let day : k * weighed YBar a s xs ≤ 1000 * weighed YBar a s xs = mul-le-mul-right (weighed YBar a s xs) few in
-      let night : (1000 - k) * weighed VPrime a s xs ≤ 1000 * weighed VPrime a s xs = mul-le-mul-right (weighed VPrime a s xs) (omega arith) in
-      let sum-day = small YBar in
-      let sum-night = small VPrime in
-      let sum : mesopicWeighed k a s xs ≤ s * 4000000000000000000000000 = omega arith in
-      let divisor : s * 10 ^ 16 * 402000 ≤ mesopicDivisor k s = mul-le-mul-left (s * 10 ^ 16) bracket in
-      let most = nearest-bound 1000000000 (mesopicSum k a s xs) (mesopicDivisor k s) (mesopic-ratio s _ _ sum divisor) in
-      record { divisor = mul-pos scale (omega arith); most = omega arith }
+      let sum = rw (mixed-same k (s * 2000000000000000000000) few) at (mixed-order k (1000 - k) (small YBar) (small VPrime)) in
+      let low : s * 4020000000000000 ≤ s * 10 ^ 16 = omega arith in
+      let divisor = rw (mixed-same k (s * 4020000000000000) few) at (mixed-order k (1000 - k) low (le-refl (s * 4020000000000000))) in
+      let most = nearest-bound 1000000000 _ _ (mesopic-ratio s (mesopicWeighed k a s xs) (mesopicDivisor k s) sum divisor) in
+      record { divisor = omega arith; most = omega arith }

@@ -35,8 +35,11 @@ efficacyOf ZBar10 = 684
 efficacyOf VPrime = 1700
 
 -- in millilux: the nearest of efficacy · W / (s · 10^16)
+abbrev pub inMillilux : Curve → ℕ → ℕ → ℕ
+inMillilux c s w = nearest (efficacyOf c * w) (s * 10 ^ 16)
+
 abbrev pub millilux : Curve → ℕ → ℕ → List ℕ → ℕ
-millilux c a s xs = nearest (efficacyOf c * weighed c a s xs) (s * 10 ^ 16)
+millilux c a s xs = inMillilux c s (weighed c a s xs)
 
 -- an illuminance of a light
 unfoldable pub illuminanceOf : Curve → ℕ → ℕ → List ℕ → Reading
@@ -62,17 +65,13 @@ mesopicCheck k a s xs = require (leb k 1000) MESOPIC (lightCheck a s xs)
 abbrev pub mesopicWeighed : ℕ → ℕ → ℕ → List ℕ → ℕ
 mesopicWeighed k a s xs = k * weighed YBar a s xs + (1000 - k) * weighed VPrime a s xs
 
--- 683000 (k · W(V) + (1000 - k) · W(V′))
-abbrev pub mesopicSum : ℕ → ℕ → ℕ → List ℕ → ℕ
-mesopicSum k a s xs = 683000 * mesopicWeighed k a s xs
+-- 1000 k + 402 (1000 - k)
+abbrev pub mesopicBracket : ℕ → ℕ
+mesopicBracket k = 1000 * k + 402 * (1000 - k)
 
--- over s · 10^16 · (1000 k + 402 (1000 - k))
-abbrev pub mesopicDivisor : ℕ → ℕ → ℕ
-mesopicDivisor k s = s * 10 ^ 16 * (1000 * k + 402 * (1000 - k))
-
--- in millilux: the nearest of the one over the other
+-- in millilux: the nearest of 683000 (k · W(V) + (1000 - k) · W(V′)) / (s · 10^16 · bracket)
 abbrev pub mesopicMillilux : ℕ → ℕ → ℕ → List ℕ → ℕ
-mesopicMillilux k a s xs = nearest (mesopicSum k a s xs) (mesopicDivisor k s)
+mesopicMillilux k a s xs = nearest (683000 * mesopicWeighed k a s xs) (s * 10 ^ 16 * mesopicBracket k)
 
 -- the mesopic reading at k
 unfoldable pub mesopicOf : ℕ → ℕ → ℕ → List ℕ → Reading

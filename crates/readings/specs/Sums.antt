@@ -1,7 +1,8 @@
--- What the sums of a light, or of a part of its row, stand for: no promise to a caller rests on the reading of this.
+-- What the sums of a light, or of a part of its row, stand for, and what they are divided by: no promise to a caller rests on the
+-- reading of this.
 use mathlib.Core.Path.{_≡_}
 use mathlib.Core.List.{List}
-use Prim.Native.Nat.{ℕ, _+_, _*_, _^_, _<_}
+use Prim.Native.Nat.{ℕ, _+_, _*_, _-_, _^_, _<_}
 use Rattle.mixing.specs.Nearest.{nearest}
 use Rattle.exact.specs.Value.{short}
 use Rattle.exact.specs.Fits.{Fits}
@@ -28,20 +29,24 @@ pub record FigureSumsOf (a s : ℕ) (xs : List ℕ) (sums : FigureSums) : Type 0
   pub colour : LightSums 2 a s xs (sums .colour)
   pub night : short (sums .night) ≡ weighed VPrime a s xs
 
--- four sums whose figures over d are numbers of 32 bits, and whose three for colour come to one of 96
-pub record FiguresFit (sums : FigureSums) (d : ℕ) : Type 0 where
+-- four sums at step s whose figures are numbers of 32 bits, and whose three for colour come to one of 96
+pub record FiguresFit (s : ℕ) (sums : FigureSums) : Type 0 where
   pub xyz :
       XyzFit (efficacyOf XBar * short (sums .colour .x)) (efficacyOf YBar * short (sums .colour .y))
-      (efficacyOf ZBar * short (sums .colour .z)) d
-  pub scotopic : Fits (efficacyOf VPrime * short (sums .night)) d
+      (efficacyOf ZBar * short (sums .colour .z)) (s * 10 ^ 16)
+  pub scotopic : Fits (efficacyOf VPrime * short (sums .night)) (s * 10 ^ 16)
   pub total : short (sums .colour .x) + short (sums .colour .y) + short (sums .colour .z) < 2 ^ 96
 
--- the figures of the report from the sums x, y, z of observer 2 and that of V′, over d: photopic is Y
+-- the figures of the report at step s from the sums x, y, z of observer 2 and that of V′: photopic is Y
 abbrev pub figuresFrom : ℕ → ℕ → ℕ → ℕ → ℕ → ReportFigures
-figuresFrom x y z night d =
+figuresFrom s x y z night =
     record {
-      photopic = nearest (efficacyOf YBar * y) d;
-      scotopic = nearest (efficacyOf VPrime * night) d;
-      xyz = xyzFrom (efficacyOf XBar * x) (efficacyOf YBar * y) (efficacyOf ZBar * z) d;
+      photopic = nearest (efficacyOf YBar * y) (s * 10 ^ 16);
+      scotopic = nearest (efficacyOf VPrime * night) (s * 10 ^ 16);
+      xyz = xyzFrom (efficacyOf XBar * x) (efficacyOf YBar * y) (efficacyOf ZBar * z) (s * 10 ^ 16);
       xy = xyFrom x y z;
     }
+
+-- what the mesopic sum is divided by as it is worked, with a thousand in both parts of the fraction cancelled
+abbrev pub mesopicDivisor : ℕ → ℕ → ℕ
+mesopicDivisor k s = k * (s * 10 ^ 16) + (1000 - k) * (s * 4020000000000000)

@@ -7,7 +7,6 @@ use answers::XyAnswer;
 use answers::Xyz;
 use answers::work::xy_from;
 use answers::work::xyz_from;
-use exact::digits::Short;
 use exact::divide::nearest;
 use grid::Check;
 use grid::Refusal;
@@ -15,6 +14,7 @@ use grid::check_light;
 use spectrum::line::begin_at_360;
 use tables::Curve;
 ghost use mathlib.Core.Path.{_≡_};
+ghost use Prim.Native.Nat.{_≤_};
 ghost use Rattle.exact.specs.Value.{short};
 ghost use Rattle.readings.specs.Readings.{figuresOf};
 ghost use Rattle.readings.specs.Sums.{figuresFrom, FiguresFit};
@@ -41,25 +41,25 @@ pub fn figures(start: u32, step: u32, samples: &[u32]) -> FiguresAnswer
             let begin = begin_at_360(start, step);
             let j = begin.place;
             FiguresAnswer::Value(figures_from(
+                step,
                 figure_sums(begin.wavelength, step, &samples[j..]),
-                scale(step),
             ))
         }
         Check::Refused(refusal) => FiguresAnswer::Refused(refusal),
     }
 }
 
-// From the four sums and the divisor. Photopic is Y, which is not divided twice.
-fn figures_from(sums: FigureSums, divisor: Short) -> ReportFigures
-    requires { ⌜ FiguresFit sums (short divisor) ⌝ }
-    ensures { λ r. ⌜ r ≡ figuresFrom (short (sums .colour .x)) (short (sums .colour .y)) (short (sums .colour .z)) (short (sums .night)) (short divisor) ⌝ }
+// From the four sums. Photopic is Y, which is not divided twice.
+fn figures_from(step: u32, sums: FigureSums) -> ReportFigures
+    requires { ⌜ (step ≤ 10) × FiguresFit step sums ⌝ }
+    ensures { λ r. ⌜ r ≡ figuresFrom step (short (sums .colour .x)) (short (sums .colour .y)) (short (sums .colour .z)) (short (sums .night)) ⌝ }
 {
     let colour = sums.colour;
     let night = sums.night;
-    let xyz = xyz_from(efficacy(Curve::YBar), colour, divisor);
+    let xyz = xyz_from(efficacy(Curve::YBar), colour, scale(step));
     ReportFigures {
         photopic: xyz.y,
-        scotopic: nearest(efficacy(Curve::VPrime), night, divisor),
+        scotopic: nearest(efficacy(Curve::VPrime), night, scale(step)),
         xyz,
         xy: xy_from(colour),
     }

@@ -3,12 +3,12 @@ pub mod colour;
 pub mod figures;
 mod sums;
 
+use crate::sums::at_setting;
 use crate::sums::mesopic_weighed;
 use crate::sums::weighed;
 use answers::Reading;
 use exact::digits::Short;
 use exact::digits::joined;
-use exact::digits::short_times_plus;
 use exact::divide::nearest;
 use grid::Check;
 use grid::Refusal;
@@ -106,10 +106,6 @@ fn mesopic_of_light(k: u32, start: u32, step: u32, samples: &[u32]) -> u32
     let begin = begin_at_360(start, step);
     let j = begin.place;
     let sum = mesopic_weighed(k, begin.wavelength, step, &samples[j..]);
-    let bracket = 1000 * k + 402 * (1000 - k);
-    nearest(
-        683000,
-        sum,
-        short_times_plus(scale(step), bracket, joined(0, 0)),
-    )
+    let night = joined(0, step as u64 * 4020000000000000);
+    nearest(683, sum, at_setting(k, scale(step), night))
 }

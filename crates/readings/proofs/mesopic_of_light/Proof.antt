@@ -1,12 +1,13 @@
--- The sum over the part is the light's, and the divisor passes no 96 bits.
-use mathlib.Core.Path.{_≡_, _∙_}
-use Prim.Native.Nat.{_+_, _*_, _-_, _^_}
-use native.Mathlib.Nat.{add-zero}
+-- The sum over the part is the light's, and the divisor is mixed of two as the sum is.
+use mathlib.Core.Path.{_≡_, _∙_, sym}
+use native.Mathlib.Nat.{zero-add}
 use native.Mathlib.Omega.{arith}
 use Rattle.exact.specs.Value.{short}
 use Rattle.tables.specs.declared.Curve.the-variants.{YBar, VPrime}
-use Rattle.readings.specs.Readings.{mesopicWeighed, mesopicDivisor}
-use Rattle.readings.proofs.Small.{mesopic-divisor-small, mesopic-fits}
+use Rattle.readings.specs.Readings.{mesopicWeighed}
+use Rattle.readings.specs.Sums.{mesopicDivisor}
+use Rattle.readings.proofs.Worked.{mesopic-worked}
+use Rattle.readings.proofs.Small.{mesopic-fits}
 use Rattle.readings.proofs.Part.{AcceptedLight, sought, step-small, BegunLight, in-row, part-begun, weighed-begun}
 use borrow.Author.Needs.{needs}
 use Rattle.readings.proofs.mesopic_of_light.Statement.{statement}
@@ -29,15 +30,9 @@ sum-is c =
     c .mesopic-weighed .ensures ∙ rw (weighed-begun is YBar, weighed-begun is VPrime)
 
 divisor-is :
-    (c : tie.After-joined) →
-    let t = begin (c .before .before) .args in
-    short (c .before .scale .result) * (1000 * t .k + 402 * (1000 - t .k)) + short (c .joined .result) ≡ mesopicDivisor (t .k) (t .step) + 0
-divisor-is c = rw (c .before .scale .ensures, c .joined .ensures)
-
-divisor-worked :
-    (c : tie.After-short-times-plus) →
-    let t = begin (c .before .before .before) .args in short (c .short-times-plus .result) ≡ mesopicDivisor (t .k) (t .step)
-divisor-worked c = c .short-times-plus .ensures ∙ divisor-is (c .before) ∙ add-zero _
+    (c : tie.After-at-setting) →
+    let t = begin (c .before .before .before) .args in short (c .at-setting .result) ≡ mesopicDivisor (t .k) (t .step)
+divisor-is c = c .at-setting .ensures ∙ rw (c .before .scale .ensures, c .before .before .joined .ensures, zero-add)
 
 begin-at-360-requires : tie.Need-begin-at-360-requires
 begin-at-360-requires c κs = sought (light (c .before))
@@ -54,26 +49,29 @@ part-mesopic-weighed-start c = in-row (part c)
 mesopic-weighed-requires : tie.Need-mesopic-weighed-requires
 mesopic-weighed-requires c κs = (c .before .before .before .pre .0, part-begun (part (c .before)))
 
-scale-requires : tie.Need-scale-requires
-scale-requires c κs = step-small (light (begin c))
+mul-joined : tie.Need-mul-joined
+mul-joined c = omega (arith, step-small (light (begin c)))
 
-short-times-plus-requires : tie.Need-short-times-plus-requires
-short-times-plus-requires c κs =
+scale-requires : tie.Need-scale-requires
+scale-requires c κs = step-small (light (begin (c .before)))
+
+at-setting-requires : tie.Need-at-setting-requires
+at-setting-requires c κs =
     let s = begin (c .before .before) in
-    let few = s .pre .0 in
     let high = step-small (light s) in
-    rw (divisor-is c)
-    (mesopic-divisor-small (s .args .step * 10 ^ 16) (1000 * s .args .k + 402 * (1000 - s .args .k)) (omega arith) (omega arith))
+    (s .pre .0, omega (arith, c .scale .ensures), omega (arith, c .before .joined .ensures))
 
 nearest-requires : tie.Need-nearest-requires
 nearest-requires c κs =
-    let worked = c .before .before .before in
-    let s = begin worked in
+    let sum = c .before .before .before in
+    let s = begin sum in
     let t = s .args in
-    rw (sum-is worked, divisor-worked c) (mesopic-fits (t .start) (t .step) (t .samples .now) (s .pre .1) (t .k) (s .pre .0))
+    rw (sum-is sum, divisor-is c) (mesopic-fits (t .start) (t .step) (t .samples .now) (s .pre .1) (t .k) (s .pre .0))
 
 returns : tie.Need-returns
-returns c = rw (c .nearest .ensures, sum-is (c .before .before .before .before), divisor-worked (c .before))
+returns c =
+    let divided = c .before in
+    rw (c .nearest .ensures, sum-is (divided .before .before .before), divisor-is divided) (sym (mesopic-worked _ _ _ _))
 
 pub mesopic-of-light-spec : {M : Type 1} → statement M
 mesopic-of-light-spec =
@@ -85,12 +83,9 @@ mesopic-of-light-spec =
     part-mesopic-weighed-start
     (λ c. search needs)
     mesopic-weighed-requires
-    (λ c. search needs)
-    (λ c. search needs)
-    (λ c. search needs)
-    (λ c. search needs)
-    scale-requires
+    mul-joined
     (λ c κs. search needs)
-    short-times-plus-requires
+    scale-requires
+    at-setting-requires
     nearest-requires
     returns)

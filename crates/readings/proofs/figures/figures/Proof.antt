@@ -34,29 +34,28 @@ part-figure-sums-start c = in-row (part c)
 figure-sums-requires : tie.Need-figure-sums-requires
 figure-sums-requires c κs = part-begun (part (c .before))
 
-scale-requires : tie.Need-scale-requires
-scale-requires c κs = step-small (light (c .before .before .before))
-
 figures-from-requires : tie.Need-figures-from-requires
 figures-from-requires c κs =
-    let sums = c .before in
-    let is = part (sums .before .before) in
-    let t = begin (sums .before .before .before) .args in
-    let colour = colour-begun is (sums .figure-sums .ensures .colour) in
-    rw (c .scale .ensures) (record {
-      total = total-small (is .light) colour;
-      xyz = xyz-fit (is .light) colour;
-      scotopic = rw (sums .figure-sums .ensures .night ∙ weighed-begun is VPrime) (millilux-fits (t .start) (t .step) (t .samples .now) (is .light .fine) VPrime);
-    })
+    let is = part (c .before .before) in
+    let t = begin (c .before .before .before) .args in
+    let colour = colour-begun is (c .figure-sums .ensures .colour) in
+    let night = c .figure-sums .ensures .night ∙ weighed-begun is VPrime in (
+      step-small (is .light),
+      record {
+        total = total-small (is .light) colour;
+        xyz = xyz-fit (is .light) colour;
+        scotopic = rw night (millilux-fits (t .start) (t .step) (t .samples .now) (is .light .fine) VPrime);
+      },
+    )
 
 returns : tie.Need-returns
 unfolding figuresOf
 returns c =
-    let sums = c .before .before in
+    let sums = c .before in
     let is = part (sums .before .before) in
     let colour = colour-begun is (sums .figure-sums .ensures .colour) in
     let night = sums .figure-sums .ensures .night ∙ weighed-begun is VPrime in
-    rw (c .figures-from .ensures, colour .x, colour .y, colour .z, night, c .before .scale .ensures, is .light .fine)
+    rw (c .figures-from .ensures, colour .x, colour .y, colour .z, night, is .light .fine)
 
 returns-2 : tie.Need-returns-2
 unfolding figuresOf
@@ -74,7 +73,6 @@ figures-spec =
     part-figure-sums-start
     (λ c. search needs)
     figure-sums-requires
-    scale-requires
     figures-from-requires
     (λ c. search needs)
     returns
