@@ -57,7 +57,8 @@ typedef struct { uint32_t number, place, length; } qr_written;
 typedef struct { uint32_t number, place, photopic, scotopic, X, Y, Z, xy_number, x, y; } qr_figures_answer;
 typedef struct { uint32_t number, place, X, Y, Z, xy_number, x, y; } qr_panel_figures_answer;
 
-/* Illuminances in millilux: photopic, scotopic, 10° photopic, and mesopic at k thousandths. */
+/* Illuminances in millilux: photopic, scotopic, 10° photopic, and mesopic at k thousandths, which is scotopic at 0 and photopic
+   at 1000. Each has 683 lumens a watt at 555.017 nm in air, the place of 540 THz. */
 qr_reading qr_photopic(uint32_t start, uint32_t step, const uint32_t *samples, size_t count);
 qr_reading qr_scotopic(uint32_t start, uint32_t step, const uint32_t *samples, size_t count);
 qr_reading qr_photopic_10(uint32_t start, uint32_t step, const uint32_t *samples, size_t count);

@@ -1,14 +1,16 @@
 """Light readings from a sampled spectrum: the independent second implementation.
 
 It follows the rules' words as closely as they can be written down, in exact
-whole numbers, so that another implementation can be held against it. Every
-public function answers a value (a whole number, a tuple, bytes) or `Refused`.
+whole numbers and fractions, so that another implementation can be held against
+it. Every public function answers a value (a whole number, a tuple, bytes) or
+`Refused`.
 
 Callers give what the rules' widths allow: settings are 32-bit unsigned,
 samples 32-bit unsigned, reflectances 16-bit unsigned.
 """
 
 from dataclasses import dataclass
+from fractions import Fraction
 from operator import mul
 from pathlib import Path
 
@@ -40,8 +42,11 @@ LARGEST_K = 1000
 LARGEST_COUNT = 531
 LONGEST_INPUT = 1_332
 
-# Weights are held at 10^13 to one and samples are micro: 10^19 in all, of
-# which a reading in thousandths takes 10^3 back.
+# Weights are held at this to one.
+ONE = 10**13
+
+# With samples in millionths that is 10^19 in all, of which a reading in
+# thousandths takes 10^3 back.
 SCALE = 10**16
 
 
@@ -66,8 +71,39 @@ def load_tables():
 X, Y, Z, X10, Y10, Z10, V_PRIME, A, D65 = load_tables()
 V, V10 = Y, Y10
 
-# Each observer's efficacy and functions.
-OBSERVERS = {2: (683, (X, Y, Z)), 10: (684, (X10, Y10, Z10))}
+
+# The place of 540 THz in air, 555.017 nm, is the reference: light there has
+# 683 lumens to the watt under every curve, which settles how many the curve's
+# peak has.
+
+
+def table_value(weights, wavelength):
+    """A curve's value at a whole nanometre."""
+    return Fraction(weights[wavelength - 360], ONE)
+
+
+def reference_value(weights):
+    """A curve's value at 555.017 nm, by straight line between 555 and 556."""
+    return (983 * table_value(weights, 555) + 17 * table_value(weights, 556)) / 1000
+
+
+def efficacy_at(peak, weights):
+    """683 times the table value at the curve's peak, over the value at 555.017 nm."""
+    return 683 * table_value(weights, peak) / reference_value(weights)
+
+
+# Made once, since every reading takes one of them.
+PHOTOPIC_EFFICACY = efficacy_at(555, V)
+SCOTOPIC_EFFICACY = efficacy_at(507, V_PRIME)
+PHOTOPIC_10_EFFICACY = efficacy_at(557, V10)
+V_REFERENCE = reference_value(V)
+V_PRIME_REFERENCE = reference_value(V_PRIME)
+
+# Each observer's efficacy, one for all three functions, and the functions.
+OBSERVERS = {
+    2: (PHOTOPIC_EFFICACY, (X, Y, Z)),
+    10: (PHOTOPIC_10_EFFICACY, (X10, Y10, Z10)),
+}
 ILLUMINANTS = {1: A, 2: D65}
 
 
@@ -111,7 +147,7 @@ def refuse_panel(observer, illuminant, start, step, reflectances):
 
 
 def nearest(numerator, denominator):
-    """The nearest whole number, halves up."""
+    """The nearest whole number, halves up; either part may be a fraction."""
     return (2 * numerator + denominator) // (2 * denominator)
 
 
@@ -183,17 +219,17 @@ def illuminance(efficacy, weights, start, step, samples):
 
 def photopic(start, step, samples):
     """Photopic illuminance in millilux."""
-    return illuminance(683, V, start, step, samples)
+    return illuminance(PHOTOPIC_EFFICACY, V, start, step, samples)
 
 
 def scotopic(start, step, samples):
     """Scotopic illuminance in millilux."""
-    return illuminance(1700, V_PRIME, start, step, samples)
+    return illuminance(SCOTOPIC_EFFICACY, V_PRIME, start, step, samples)
 
 
 def photopic_10(start, step, samples):
     """10° photopic illuminance in millilux."""
-    return illuminance(684, V10, start, step, samples)
+    return illuminance(PHOTOPIC_10_EFFICACY, V10, start, step, samples)
 
 
 def mesopic(k, start, step, samples):
@@ -204,7 +240,8 @@ def mesopic(k, start, step, samples):
         return refused
     row = t_row(start, step, samples)
     mixed = k * weigh(V, row) + (1000 - k) * weigh(V_PRIME, row)
-    return nearest(683_000 * mixed, step * SCALE * (1000 * k + 402 * (1000 - k)))
+    bracket = 1000 * (k * V_REFERENCE + (1000 - k) * V_PRIME_REFERENCE)
+    return nearest(683_000 * mixed, step * SCALE * bracket)
 
 
 def xyz(observer, start, step, samples):

@@ -5,6 +5,7 @@
 
 import random
 import unittest
+from fractions import Fraction
 from itertools import product
 from operator import add, mul
 
@@ -14,12 +15,31 @@ from light import Refused
 FULL = 1_000_000
 TOO_LARGE = 1_000_001
 
+# The value of each curve at 555.017 nm, from its entries at 555 and 556, and the
+# efficacies that follow. They stand here by hand, so that a slip in light.py shows.
+V_REFERENCE = Fraction("0.9999975639")  # 0.983 * 1 + 0.017 * 0.9998567
+V_PRIME_REFERENCE = Fraction("0.4017348")  # 0.983 * 0.402 + 0.017 * 0.3864
+V10_REFERENCE = Fraction("0.99912122")  # 0.983 * 0.99911 + 0.017 * 0.99977
+PHOTOPIC = 683 / V_REFERENCE
+SCOTOPIC = 683 / V_PRIME_REFERENCE
+PHOTOPIC_10 = 683 / V10_REFERENCE
+
 
 def lone(value, wavelength, start=380, step=1, last=780):
     """A row that is 0 but for one sample."""
     samples = [0] * ((last - start) // step + 1)
     samples[(wavelength - start) // step] = value
     return samples
+
+
+def pair(one, other):
+    """A row that is 0 but for two samples, each given as its value and wavelength."""
+    return list(map(add, lone(*one), lone(*other)))
+
+
+def unrounded(efficacy, weights, samples):
+    """The exact reading of a row from 380 to 780 in steps of 1 that ends in zeros."""
+    return efficacy * sum(map(mul, weights[380 - 360 :], samples)) / 10**16
 
 
 def panel(value, start=360, last=830):
@@ -123,21 +143,24 @@ class Bench(unittest.TestCase):
     def test_p2_full_at_460(self):
         given = 380, 1, lone(FULL, 460)
         self.assertEqual(light.photopic(*given), 40980)
-        self.assertEqual(light.scotopic(*given), 963900)
-        self.assertEqual(light.xyz(2, *given), (198616, 40980, 1140064))
+        self.assertEqual(light.scotopic(*given), 963972)
+        self.assertEqual(light.xyz(2, *given), (198617, 40980, 1140066))
         self.assertEqual(light.xy(2, *given), (14396, 2970))
         self.assertEqual(light.chart(2, *given), (14396 / 100000.0, 2970 / 100000.0))
-        expected = (40980, 963900, 198616, 40980, 1140064, (14396, 2970))
+        expected = (40980, 963972, 198617, 40980, 1140066, (14396, 2970))
         self.assertEqual(light.figures(*given), expected)
 
-    def test_p3_half_at_460(self):
+    def test_p3_just_above_a_half_at_460(self):
+        above = unrounded(PHOTOPIC, light.V, lone(25_000, 460)) - Fraction("1024.5")
+        self.assertLess(0, above)
+        self.assertLess(above, Fraction("0.0025"))
         self.assertEqual(light.photopic(380, 1, lone(25_000, 460)), 1025)
         self.assertEqual(light.photopic(380, 1, lone(24_999, 460)), 1024)
 
     def test_p4_mesopic(self):
         given = 380, 1, lone(FULL, 460)
-        self.assertEqual(light.mesopic(0, *given), 963336)
-        self.assertEqual(light.mesopic(500, *given), 305450)
+        self.assertEqual(light.mesopic(0, *given), 963972)
+        self.assertEqual(light.mesopic(500, *given), 305508)
         self.assertEqual(light.mesopic(1000, *given), 40980)
         self.assertEqual(light.mesopic(1001, *given), Refused(5))
 
@@ -149,7 +172,7 @@ class Bench(unittest.TestCase):
     def test_p6_full_at_485(self):
         given = 380, 1, lone(FULL, 485)
         self.assertEqual(light.photopic(*given), 115632)
-        self.assertEqual(light.scotopic(*given), 1446700)
+        self.assertEqual(light.scotopic(*given), 1446808)
         self.assertEqual(light.xy(2, *given), (6871, 20072))
 
     def test_p7_p2_and_p6_mixed(self):
@@ -158,7 +181,8 @@ class Bench(unittest.TestCase):
         self.assertEqual(light.photopic(380, 1, samples), 156612)
         self.assertEqual(light.xy(2, 380, 1, samples), (12179, 8008))
 
-    def test_p8_half_mixed_with_itself(self):
+    def test_p8_p3_mixed_with_itself(self):
+        # The two readings sum to 2050.
         self.assertEqual(light.photopic(380, 1, lone(50_000, 460)), 2049)
 
     def test_p9_white_panel(self):
@@ -181,14 +205,63 @@ class Readings(unittest.TestCase):
         self.assertEqual(light.xyz(*given), (0, 0, 1))
         self.assertEqual(light.xy(*given)[0], 14396)
 
-    def test_exact_halves_go_up(self):
-        self.assertEqual(light.scotopic(380, 1, lone(5_000, 460)), 4820)
-        self.assertEqual(light.scotopic(380, 1, lone(4_999, 460)), 4819)
-        self.assertEqual(light.photopic_10(380, 1, lone(125, 557)), 86)
-        self.assertEqual(light.photopic_10(380, 1, lone(124, 557)), 85)
-        self.assertEqual(light.xyz(2, 380, 1, lone(625_000, 505))[0], 1025)
-        self.assertEqual(light.xyz(2, 380, 1, lone(624_999, 505))[0], 1024)
-        self.assertEqual(light.mesopic(1000, 380, 1, lone(25_000, 460)), 1025)
+    def assert_half_goes_up(self, half, exactly, reading, row, less):
+        """`exactly` is a row's exact reading, and `less` a row a little below `row`."""
+        self.assertEqual(exactly(row), Fraction(half))
+        up = int(Fraction(half) + Fraction(1, 2))
+        self.assertEqual(reading(380, 1, row), up)
+        self.assertEqual(reading(380, 1, less), up - 1)
+
+    def test_exact_halves_of_illuminances_go_up(self):
+        self.assert_half_goes_up(
+            "93229.5",
+            lambda row: unrounded(PHOTOPIC, light.V, row),
+            light.photopic,
+            pair((136_491, 555), (184_750, 382)),
+            pair((136_491, 555), (184_749, 382)),
+        )
+        self.assert_half_goes_up(
+            "107572.5",
+            lambda row: unrounded(SCOTOPIC, light.V_PRIME, row),
+            light.scotopic,
+            lone(111_593, 460),
+            lone(111_592, 460),
+        )
+        self.assert_half_goes_up(
+            "129428.5",
+            lambda row: unrounded(PHOTOPIC_10, light.V10, row),
+            light.photopic_10,
+            lone(189_947, 553),
+            lone(189_946, 553),
+        )
+
+    def test_exact_halves_of_mesopic_go_up(self):
+        both = list(map(add, light.V, light.V_PRIME))
+        self.assert_half_goes_up(
+            "440876.5",
+            lambda row: unrounded(683 / (V_REFERENCE + V_PRIME_REFERENCE), both, row),
+            lambda *given: light.mesopic(500, *given),
+            pair((640_885, 555), (31_715, 429)),
+            pair((640_885, 555), (31_714, 429)),
+        )
+        half = lone(111_593, 460)
+        self.assertEqual(light.mesopic(0, 380, 1, half), 107573)
+
+    def test_exact_halves_of_x_go_up(self):
+        self.assert_half_goes_up(
+            "51566.5",
+            lambda row: unrounded(PHOTOPIC, light.X, row),
+            lambda *given: light.xyz(2, *given)[0],
+            pair((259_430, 460), (38_329, 381)),
+            pair((259_430, 460), (38_328, 381)),
+        )
+        self.assert_half_goes_up(
+            "18782.5",
+            lambda row: unrounded(PHOTOPIC_10, light.X10, row),
+            lambda *given: light.xyz(10, *given)[0],
+            lone(189_947, 474),
+            lone(189_946, 474),
+        )
 
     def test_x_and_y_may_come_to_100001(self):
         samples = lone(3, 685)
@@ -213,18 +286,117 @@ class Readings(unittest.TestCase):
                 with self.subTest(name, step=step):
                     self.assertEqual(reading(start, step, samples), reading(start, 1, fine))
 
-    def test_mesopic_at_1000_is_photopic(self):
-        draw = random.Random(2)
-        for _ in range(20):
-            given = 300, 10, [draw.randrange(FULL + 1) for _ in range(54)]
-            self.assertEqual(light.mesopic(1000, *given), light.photopic(*given))
-
     def test_y_is_the_photopic_reading(self):
         draw = random.Random(3)
         for _ in range(20):
             given = 380, 5, [draw.randrange(FULL + 1) for _ in range(81)]
             self.assertEqual(light.xyz(2, *given)[1], light.photopic(*given))
             self.assertEqual(light.xyz(10, *given)[1], light.photopic_10(*given))
+
+
+class Reference(unittest.TestCase):
+    """The place of 540 THz in air, 555.017 nm, where every curve has 683 lumens to the watt."""
+
+    CURVES = (
+        (light.V, 555, V_REFERENCE),
+        (light.V_PRIME, 507, V_PRIME_REFERENCE),
+        (light.V10, 557, V10_REFERENCE),
+    )
+
+    def test_peaks_are_one_and_no_entry_is_larger(self):
+        for weights, peak, _ in self.CURVES:
+            self.assertEqual(light.table_value(weights, peak), 1)
+            self.assertEqual(weights[peak - 360], max(weights))
+        # Scotopic is one at 506 and 508 too, with 507 in their middle.
+        ones = [[w for w in range(360, 831) if each[w - 360] == 10**13] for each, *_ in self.CURVES]
+        self.assertEqual(ones, [[555], [506, 507, 508], [557]])
+
+    def test_the_value_lies_between_its_neighbours_and_nearer_to_that_of_555(self):
+        for weights, _, reference in self.CURVES:
+            value = light.reference_value(weights)
+            at_555, at_556 = (Fraction(weights[w - 360], 10**13) for w in (555, 556))
+            self.assertEqual(value, reference)
+            self.assertLess(min(at_555, at_556), value)
+            self.assertLess(value, max(at_555, at_556))
+            # 17 thousandths of the way, of which 983 are left.
+            self.assertEqual(983 * (value - at_555), 17 * (at_556 - value))
+            self.assertLess(abs(value - at_555), abs(value - at_556))
+
+    def test_efficacies(self):
+        self.assertEqual(light.PHOTOPIC_EFFICACY, PHOTOPIC)
+        self.assertEqual(light.SCOTOPIC_EFFICACY, SCOTOPIC)
+        self.assertEqual(light.PHOTOPIC_10_EFFICACY, PHOTOPIC_10)
+        # The rounded efficacies of the tables' source.
+        rounded = [light.nearest(each, 1) for each in (PHOTOPIC, SCOTOPIC, PHOTOPIC_10)]
+        self.assertEqual(rounded, [683, 1700, 684])
+
+    def test_light_at_555_017_reads_683_lumens_to_the_watt(self):
+        # 983 parts at 555 and 17 at 556 weigh as much as 1000 at 555.017 do.
+        for parts in (1, 2, 500, 1017):
+            given = 380, 1, pair((983 * parts, 555), (17 * parts, 556))
+            expected = 683 * parts
+            self.assertEqual(light.photopic(*given), expected)
+            self.assertEqual(light.scotopic(*given), expected)
+            self.assertEqual(light.photopic_10(*given), expected)
+            self.assertEqual(light.xyz(2, *given)[1], expected)
+            self.assertEqual(light.xyz(10, *given)[1], expected)
+            for k in (0, 1, 17, 250, 402, 500, 983, 999, 1000):
+                self.assertEqual(light.mesopic(k, *given), expected)
+
+
+class MesopicEnds(unittest.TestCase):
+    """Mesopic is scotopic at k = 0 and photopic at k = 1000, whatever is given."""
+
+    def spectra(self):
+        """Start, step and samples: accepted rows on any grid, bright, dim and sparse."""
+        draw = random.Random(2)
+        for start, step, count in grids():
+            largest, lit = draw.choice((1, 20, 1_000, FULL, FULL)), draw.choice((3, count))
+            samples = [0] * count
+            for place in draw.sample(range(count), lit):
+                samples[place] = draw.randint(0, largest)
+            yield start, step, samples
+
+    def assert_ends(self, *given):
+        scotopic, photopic = light.scotopic(*given), light.photopic(*given)
+        self.assertEqual(light.mesopic(0, *given), scotopic)
+        self.assertEqual(light.mesopic(1000, *given), photopic)
+        return scotopic, photopic
+
+    def test_accepted(self):
+        lit = 0
+        for spectrum in self.spectra():
+            scotopic, photopic = self.assert_ends(*spectrum)
+            lit += scotopic > 10_000 and photopic > 10_000 and scotopic != photopic
+        # Bright enough to tell the two apart, and from any other factor.
+        self.assertGreater(lit, 200)
+
+    def test_lone_wavelengths(self):
+        for wavelength in range(360, 831):
+            samples = lone(FULL, wavelength, start=360, last=830)
+            self.assert_ends(360, 1, samples)
+
+    def test_refused(self):
+        draw = random.Random(8)
+        for start, step, samples in self.spectra():
+            faults = draw.sample((1, 2, 3, 4), draw.randint(1, 4))
+            place = 0
+            if 1 in faults:
+                step = draw.choice((0, 3, 4, 7, 11, 4_294_967_295))
+            if 2 in faults:
+                start = draw.choice((0, 299, 381, 4_294_967_295))
+            if 3 in faults:
+                samples = draw.choice((samples[:0], samples[:1], samples[:40], [1] * 532))
+            if faults == [4]:
+                places = draw.sample(range(len(samples)), 3)
+                place = min(places)
+                for each in places:
+                    samples[each] = draw.choice((TOO_LARGE, 4_294_967_295))
+            elif 4 in faults:
+                samples = [TOO_LARGE] * len(samples)
+            with self.subTest(faults=faults):
+                refused = Refused(min(faults), place)
+                self.assertEqual(self.assert_ends(start, step, samples), (refused, refused))
 
 
 class Ends(unittest.TestCase):
@@ -407,8 +579,8 @@ class Panels(unittest.TestCase):
 # is stands here again, so that a slip in light.py shows.
 
 OBSERVERS = {
-    2: (683, (light.X, light.Y, light.Z)),
-    10: (684, (light.X10, light.Y10, light.Z10)),
+    2: (PHOTOPIC, (light.X, light.Y, light.Z)),
+    10: (PHOTOPIC_10, (light.X10, light.Y10, light.Z10)),
 }
 ILLUMINANTS = {1: light.A, 2: light.D65}
 
@@ -419,7 +591,8 @@ def greatest_illuminance(efficacy, weights):
 
 def greatest_mesopic(k):
     mixed = k * sum(light.V) + (1000 - k) * sum(light.V_PRIME)
-    return light.nearest(683_000 * FULL * mixed, 10**16 * (1000 * k + 402 * (1000 - k)))
+    reference = k * V_REFERENCE + (1000 - k) * V_PRIME_REFERENCE
+    return light.nearest(683 * FULL * mixed, 10**16 * reference)
 
 
 def greatest_xyz(observer):
@@ -444,12 +617,15 @@ class Greatest(unittest.TestCase):
             self.assertEqual(max(light.t_row(start, step, [FULL] * count)), step * FULL)
 
     def test_the_full_light_attains_them_on_any_grid(self):
+        photopic = greatest_illuminance(PHOTOPIC, light.V)
+        scotopic = greatest_illuminance(SCOTOPIC, light.V_PRIME)
+        photopic_10 = greatest_illuminance(PHOTOPIC_10, light.V10)
         for start, step, count in grids():
             full = start, step, [FULL] * count
             with self.subTest(start=start, step=step, count=count):
-                self.assertEqual(light.photopic(*full), greatest_illuminance(683, light.V))
-                self.assertEqual(light.scotopic(*full), greatest_illuminance(1700, light.V_PRIME))
-                self.assertEqual(light.photopic_10(*full), greatest_illuminance(684, light.V10))
+                self.assertEqual(light.photopic(*full), photopic)
+                self.assertEqual(light.scotopic(*full), scotopic)
+                self.assertEqual(light.photopic_10(*full), photopic_10)
                 for k in (0, 500, 1000):
                     self.assertEqual(light.mesopic(k, *full), greatest_mesopic(k))
                 for observer in OBSERVERS:
@@ -465,15 +641,32 @@ class Greatest(unittest.TestCase):
                     self.assertEqual(white, greatest)
 
     def test_the_greatest_illuminances(self):
-        self.assertEqual(greatest_illuminance(683, light.V), 72_983_274)
-        self.assertEqual(greatest_illuminance(1700, light.V_PRIME), 165_021_238)
-        self.assertEqual(greatest_illuminance(684, light.V10), 79_796_724)
+        full = 360, 1, [FULL] * 471
+        self.assertEqual(light.photopic(*full), 72_983_452)
+        self.assertEqual(light.scotopic(*full), 165_033_523)
+        self.assertEqual(light.photopic_10(*full), 79_750_145)
+        mesopic = {
+            0: 165_033_523,
+            1: 164_804_733,
+            250: 123_291_384,
+            500: 99_364_891,
+            750: 83_854_316,
+            999: 73_020_454,
+            1000: 72_983_452,
+        }
+        for k, greatest in mesopic.items():
+            self.assertEqual(light.mesopic(k, *full), greatest)
+
+    def test_the_greatest_x_y_z(self):
+        full = 360, 1, [FULL] * 471
+        self.assertEqual(light.xyz(2, *full), (72_989_293, 72_983_452, 73_007_585))
+        self.assertEqual(light.xyz(10, *full), (79_741_014, 79_750_145, 79_758_419))
 
     def test_the_largest_of_all_is_below_2_to_the_32(self):
         largest = max(
-            greatest_illuminance(683, light.V),
-            greatest_illuminance(1700, light.V_PRIME),
-            greatest_illuminance(684, light.V10),
+            greatest_illuminance(PHOTOPIC, light.V),
+            greatest_illuminance(SCOTOPIC, light.V_PRIME),
+            greatest_illuminance(PHOTOPIC_10, light.V10),
             *map(greatest_mesopic, range(1001)),
             *greatest_xyz(2),
             *greatest_xyz(10),
@@ -660,10 +853,10 @@ class Report(unittest.TestCase):
     def test_the_report_of_the_rules(self):
         expected = (
             b"photopic 40980\n"
-            b"scotopic 963900\n"
-            b"X 198616\n"
+            b"scotopic 963972\n"
+            b"X 198617\n"
             b"Y 40980\n"
-            b"Z 1140064\n"
+            b"Z 1140066\n"
             b"x 0.14396\n"
             b"y 0.02970\n"
         )

@@ -19,18 +19,20 @@ static uint16_t white[471];
 static void lights(void) {
     qr_reading photopic = qr_photopic(380, 1, samples, 401);
     expect("qr_photopic", photopic.number == 0 && photopic.place == 0 && photopic.value == 40980);
-    expect("qr_scotopic", qr_scotopic(380, 1, samples, 401).value == 963900);
-    expect("qr_photopic_10", qr_photopic_10(380, 1, samples, 401).value == 87689);
-    expect("qr_mesopic", qr_mesopic(500, 380, 1, samples, 401).value == 305450);
+    expect("qr_scotopic", qr_scotopic(380, 1, samples, 401).value == 963972);
+    expect("qr_photopic_10", qr_photopic_10(380, 1, samples, 401).value == 87638);
+    expect("qr_mesopic", qr_mesopic(500, 380, 1, samples, 401).value == 305508);
+    expect("mesopic at 0 is scotopic", qr_mesopic(0, 380, 1, samples, 401).value == 963972);
+    expect("mesopic at 1000 is photopic", qr_mesopic(1000, 380, 1, samples, 401).value == 40980);
     qr_xyz_answer xyz = qr_xyz(2, 380, 1, samples, 401);
-    expect("qr_xyz", xyz.number == 0 && xyz.x == 198616 && xyz.y == 40980 && xyz.z == 1140064);
+    expect("qr_xyz", xyz.number == 0 && xyz.x == 198617 && xyz.y == 40980 && xyz.z == 1140066);
     qr_xy_answer xy = qr_xy(2, 380, 1, samples, 401);
     expect("qr_xy", xy.number == 0 && xy.x == 14396 && xy.y == 2970);
     qr_chart_answer chart = qr_chart(2, 380, 1, samples, 401);
     expect("qr_chart", chart.number == 0 && chart.place == 0 && chart.x == 14396 / 100000.0 && chart.y == 2970 / 100000.0);
     qr_figures_answer f = qr_figures(380, 1, samples, 401);
-    expect("qr_figures", f.number == 0 && f.photopic == 40980 && f.scotopic == 963900 && f.X == 198616 && f.Y == 40980 &&
-                             f.Z == 1140064 && f.xy_number == 0 && f.x == 14396 && f.y == 2970);
+    expect("qr_figures", f.number == 0 && f.photopic == 40980 && f.scotopic == 963972 && f.X == 198617 && f.Y == 40980 &&
+                             f.Z == 1140066 && f.xy_number == 0 && f.x == 14396 && f.y == 2970);
 }
 
 static void panels(void) {
@@ -60,7 +62,7 @@ static void records(void) {
     expect("qr_read_record", read.number == 0 && read.start == 380 && read.step == 1 && read.count == 401 &&
                                  memcmp(back, samples, sizeof samples) == 0);
     qr_written report = qr_report(record, written.length, text, sizeof text);
-    const char *page = "photopic 40980\nscotopic 963900\nX 198616\nY 40980\nZ 1140064\nx 0.14396\ny 0.02970\n";
+    const char *page = "photopic 40980\nscotopic 963972\nX 198617\nY 40980\nZ 1140066\nx 0.14396\ny 0.02970\n";
     expect("qr_report", report.number == 0 && report.length == strlen(page) && memcmp(text, page, strlen(page)) == 0);
     report = qr_report(record, 2, text, sizeof text);
     expect("qr_report of a refused record", report.number == 0 && report.length == 11 && memcmp(text, "refused 12\n", 11) == 0);

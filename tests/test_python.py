@@ -27,7 +27,7 @@ except ImportError:
     numpy = None
 
 ROOT = Path(__file__).resolve().parents[1]
-REPORT = "photopic 40980\nscotopic 963900\nX 198616\nY 40980\nZ 1140064\nx 0.14396\ny 0.02970\n"
+REPORT = "photopic 40980\nscotopic 963972\nX 198617\nY 40980\nZ 1140066\nx 0.14396\ny 0.02970\n"
 DARK = [0] * 401
 WHITE = [10_000] * 471
 BLACK = [0] * 471
@@ -65,20 +65,27 @@ class Case(unittest.TestCase):
 class Lights(Case):
     def test_illuminances(self):
         self.assertEqual(quailribbon.photopic(380, 1, example()), 40980)
-        self.assertEqual(quailribbon.scotopic(380, 1, example()), 963900)
-        self.assertEqual(quailribbon.photopic_10(380, 1, example()), 87689)
-        self.assertEqual(quailribbon.mesopic(500, 380, 1, example()), 305450)
+        self.assertEqual(quailribbon.scotopic(380, 1, example()), 963972)
+        self.assertEqual(quailribbon.photopic_10(380, 1, example()), 87638)
+        self.assertEqual([quailribbon.mesopic(k, 380, 1, example()) for k in (0, 500, 1000)], [963972, 305508, 40980])
+
+    def test_light_as_at_555_017_nm_has_683_lumens_a_watt(self):
+        samples = changed(changed(DARK, 175, 983_000), 176, 17_000)
+        for reading in (quailribbon.photopic, quailribbon.scotopic, quailribbon.photopic_10):
+            self.assertEqual(reading(380, 1, samples), 683_000)
+        self.assertEqual(quailribbon.mesopic(500, 380, 1, samples), 683_000)
+        self.assertEqual([quailribbon.xyz(observer, 380, 1, samples).y for observer in (2, 10)], [683_000] * 2)
 
     def test_colour(self):
-        self.assertEqual(quailribbon.xyz(2, 380, 1, example()), (198616, 40980, 1140064))
+        self.assertEqual(quailribbon.xyz(2, 380, 1, example()), (198617, 40980, 1140066))
         self.assertEqual(quailribbon.xy(2, 380, 1, example()), (14396, 2970))
         self.assertEqual(quailribbon.xy(10, 380, 1, example()), (13892, 5892))
         self.assertEqual(quailribbon.chart(2, 380, 1, example()), (14396 / 100000, 2970 / 100000))
 
     def test_figures(self):
         figures = quailribbon.figures(380, 1, example())
-        self.assertEqual(figures, (40980, 963900, 198616, 40980, 1140064, (14396, 2970)))
-        self.assertEqual((figures.X, figures.xy.y), (198616, 2970))
+        self.assertEqual(figures, (40980, 963972, 198617, 40980, 1140066, (14396, 2970)))
+        self.assertEqual((figures.X, figures.xy.y), (198617, 2970))
 
     def test_figures_of_no_light_have_no_xy(self):
         self.assertEqual(quailribbon.figures(380, 1, DARK), (0, 0, 0, 0, 0, None))
@@ -296,7 +303,7 @@ class NoNumbers(Case):
 
     def test_whole_numbers_by_their_index(self):
         samples = [Whole(number) for number in example()]
-        self.assertEqual(quailribbon.mesopic(Whole(500), Whole(380), True, samples), 305450)
+        self.assertEqual(quailribbon.mesopic(Whole(500), Whole(380), True, samples), 305508)
         self.assertRefused(4, quailribbon.photopic, 380, 1, changed(DARK, 7, Whole(2**40)), place=7)
 
 

@@ -194,7 +194,7 @@ def photopic_10(start: SupportsIndex, step: SupportsIndex, samples: Row) -> int:
 
 
 def mesopic(k: SupportsIndex, start: SupportsIndex, step: SupportsIndex, samples: Row) -> int:
-    """Mesopic illuminance in millilux, at k thousandths, 0 to 1000."""
+    """Mesopic illuminance in millilux, at k thousandths, from 0 (scotopic) to 1000 (photopic)."""
     return _ask(_c.mesopic, (thousandths(k), *grid(start, step)), samples).value
 
 

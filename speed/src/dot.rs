@@ -10,6 +10,10 @@ static Z: Weights = floats(&tables::Z, 1e13);
 static V_PRIME: Weights = floats(&tables::V_PRIME, 1e13);
 static D65: Weights = floats(&tables::D65, 1e5);
 
+/// At 555.017 nm.
+const V_AT_REFERENCE: f64 = 0.9999975639;
+const V_PRIME_AT_REFERENCE: f64 = 0.4017348;
+
 const fn floats(table: &Table, one: f64) -> Weights {
     let mut floats = [0.0; WAVELENGTHS];
     let mut i = 0;
@@ -32,8 +36,9 @@ pub fn figures(start: u32, step: u32, samples: &[u32]) -> [f64; 6] {
         scotopic += V_PRIME[i] * t;
     }
     let [chart_x, chart_y] = [x, y].map(|each| each / (x + y + z));
-    let [x, y, z] = [x, y, z].map(|sum| 0.683 * sum);
-    [y, 1.7 * scotopic, x, z, chart_x, chart_y]
+    let [x, y, z] = [x, y, z].map(|sum| 0.683 / V_AT_REFERENCE * sum);
+    let scotopic = 0.683 / V_PRIME_AT_REFERENCE * scotopic;
+    [y, scotopic, x, z, chart_x, chart_y]
 }
 
 /// X, Y, Z in thousandths, then x and y, of a panel without faults under D65, observer 2.

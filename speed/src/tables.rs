@@ -24,6 +24,12 @@ pub static V_PRIME: Table = ALL[7];
 pub static A: Table = ALL[8];
 pub static D65: Table = ALL[9];
 
+/// The value of a curve at 555.017 nm, by straight line between 555 and 556, at 10^16 to one.
+pub fn at_reference(curve: &Table) -> u128 {
+    let at = |wavelength: u32| u128::from(curve[(wavelength - FIRST) as usize]);
+    983 * at(555) + 17 * at(556)
+}
+
 /// Reads lines of whole numbers with one space between; lines that begin with # are remarks.
 const fn read(text: &[u8]) -> [Table; COLUMNS] {
     let mut all = [[0; WAVELENGTHS]; COLUMNS];

@@ -43,22 +43,39 @@ fn p2_the_report() {
     let mut text = [0; 200];
     let length = report(&record[..1006], &mut text).length as usize;
     let page =
-        "photopic 40980\nscotopic 963900\nX 198616\nY 40980\nZ 1140064\nx 0.14396\ny 0.02970\n";
+        "photopic 40980\nscotopic 963972\nX 198617\nY 40980\nZ 1140066\nx 0.14396\ny 0.02970\n";
     assert_eq!(text[..length], *page.as_bytes());
     assert_eq!(chart(2, 380, 1, &light(&[(460, 1)])).x, 14396.0 / 100000.0);
 }
 
 #[test]
-fn p3_an_exact_half() {
+fn p3_about_a_half() {
     assert_eq!(photopic_of(&[(460, 25_000)]), 1025);
     assert_eq!(photopic_of(&[(460, 24_999)]), 1024);
+    // Exactly 93229.5.
+    assert_eq!(photopic_of(&[(555, 136_491), (382, 184_750)]), 93230);
+    assert_eq!(photopic_of(&[(555, 136_491), (382, 184_749)]), 93229);
+}
+
+#[test]
+fn light_as_at_555_017_has_683_lumens_a_watt() {
+    let samples = light(&[(555, 983_000), (556, 17_000)]);
+    assert_eq!(photopic(380, 1, &samples).value, 683_000);
+    assert_eq!(scotopic(380, 1, &samples).value, 683_000);
+    assert_eq!(photopic_10(380, 1, &samples).value, 683_000);
+    for k in [0, 500, 1000] {
+        assert_eq!(mesopic(k, 380, 1, &samples).value, 683_000);
+    }
+    for observer in [2, 10] {
+        assert_eq!(xyz(observer, 380, 1, &samples).y, 683_000);
+    }
 }
 
 #[test]
 fn p4_mesopic() {
     let samples = light(&[(460, 1_000_000)]);
     let at = |k| mesopic(k, 380, 1, &samples);
-    assert_eq!([0, 500, 1000].map(|k| at(k).value), [963336, 305450, 40980]);
+    assert_eq!([0, 500, 1000].map(|k| at(k).value), [963972, 305508, 40980]);
     assert_eq!(at(1001).number, 5);
 }
 
@@ -72,7 +89,7 @@ fn p5_the_straight_line() {
 #[test]
 fn p6_p7_p8_mixtures() {
     assert_eq!(photopic_of(&[(485, 1_000_000)]), 115632);
-    assert_eq!(scotopic(380, 1, &light(&[(485, 1_000_000)])).value, 1446700);
+    assert_eq!(scotopic(380, 1, &light(&[(485, 1_000_000)])).value, 1446808);
     assert_eq!(chromaticity_of(&[(485, 1_000_000)]), (6871, 20072));
     let both = [(460, 1_000_000), (485, 1_000_000)];
     assert_eq!(photopic_of(&both), 156612);

@@ -1,5 +1,5 @@
--- The bench figures P1 to P10 with the rules' own numbers, and some of the project's own. Refusals have their numbers here too,
--- so that the table holds the names to them.
+-- The bench figures P1 to P10 with the rules' own numbers, the illuminances and X, Y, Z worked again with the reference at
+-- 555.017 nm, and some of the project's own. Refusals have their numbers here too, so that the table holds the names to them.
 use mathlib.Core.List.{List, [], _∷_, _++_}
 use Prim.Native.Nat.{ℕ, _-_}
 use lib.ListN.{replicate}
@@ -23,19 +23,26 @@ refuses asked number place = record { asked = asked; answer = refusedWith (refus
 abbrev pub lone : ℕ → ℕ → ℕ → List ℕ
 lone n i v = replicate i 0 ++ v ∷ replicate (n - i - 1) 0
 
--- from 380 nm at step 1, 401 samples, all 0 but v at a wavelength's place: 460 and 485 nm
+-- from 380 nm at step 1, 401 samples, all 0 but v at a wavelength's place: 460, 485 and 555 nm
 abbrev pub at460 : ℕ → List ℕ
 at460 v = lone 401 80 v
 
 abbrev at485 : ℕ → List ℕ
 at485 v = lone 401 105 v
 
+abbrev at555 : ℕ → List ℕ
+at555 v = lone 401 175 v
+
+-- 983 parts at 555 and 17 at 556 nm, which weigh what a thousand at 555.017 would
+abbrev atTheReference : List ℕ
+atTheReference = mix (at555 983000) (lone 401 176 17000)
+
 -- n samples, all 0 but 1,000,000 at the first and at the last
 abbrev litEnds : ℕ → List ℕ
 litEnds n = 1000000 ∷ lone (n - 1) (n - 2) 1000000
 
 -- from 360 to 830 nm at step 1, all at the limit
-abbrev fullLight : List ℕ
+abbrev pub fullLight : List ℕ
 fullLight = replicate 471 1000000
 
 unfoldable pub rows : List Row
@@ -49,22 +56,22 @@ rows =
     ∷ refuses (xy 2 380 1 (replicate 401 0)) 9 0
     -- P2: 1,000,000 at 460
     ∷ gives (photopic 380 1 (at460 1000000)) (40980 ∷ [])
-    ∷ gives (scotopic 380 1 (at460 1000000)) (963900 ∷ [])
-    ∷ gives (xyz 2 380 1 (at460 1000000)) (198616 ∷ 40980 ∷ 1140064 ∷ [])
+    ∷ gives (scotopic 380 1 (at460 1000000)) (963972 ∷ [])
+    ∷ gives (xyz 2 380 1 (at460 1000000)) (198617 ∷ 40980 ∷ 1140066 ∷ [])
     ∷ gives (xy 2 380 1 (at460 1000000)) (14396 ∷ 2970 ∷ [])
-    -- P3: exactly 1024.5, and just below
+    -- P3: just above 1024.5, and just below
     ∷ gives (photopic 380 1 (at460 25000)) (1025 ∷ [])
     ∷ gives (photopic 380 1 (at460 24999)) (1024 ∷ [])
     -- P4: P2 mesopic at four settings
-    ∷ gives (mesopic 0 380 1 (at460 1000000)) (963336 ∷ [])
-    ∷ gives (mesopic 500 380 1 (at460 1000000)) (305450 ∷ [])
+    ∷ gives (mesopic 0 380 1 (at460 1000000)) (963972 ∷ [])
+    ∷ gives (mesopic 500 380 1 (at460 1000000)) (305508 ∷ [])
     ∷ gives (mesopic 1000 380 1 (at460 1000000)) (40980 ∷ [])
     ∷ refuses (mesopic 1001 380 1 (at460 1000000)) 5 0
     -- P5: step 5, the line reaches 456 and 464
     ∷ gives (photopic 380 5 (lone 81 16 1000000)) (205365 ∷ [])
     -- P6: 1,000,000 at 485
     ∷ gives (photopic 380 1 (at485 1000000)) (115632 ∷ [])
-    ∷ gives (scotopic 380 1 (at485 1000000)) (1446700 ∷ [])
+    ∷ gives (scotopic 380 1 (at485 1000000)) (1446808 ∷ [])
     ∷ gives (xy 2 380 1 (at485 1000000)) (6871 ∷ 20072 ∷ [])
     -- P7: P2 and P6 mixed
     ∷ gives (photopic 380 1 (mix (at460 1000000) (at485 1000000))) (156612 ∷ [])
@@ -80,6 +87,21 @@ rows =
     ∷ refuses (photopic 381 1 (replicate 401 0)) 2 0
     ∷ refuses (photopic 380 1 (replicate 400 0)) 3 0
     ∷ refuses (photopic 380 1 (lone 401 7 1000001)) 4 7
+    -- our own: exactly 93229.5, 107572.5, 129428.5 and 440876.5, and just below two of them; and X of exactly 18782.5
+    ∷ gives (photopic 380 1 (mix (at555 136491) (lone 401 2 184750))) (93230 ∷ [])
+    ∷ gives (photopic 380 1 (mix (at555 136491) (lone 401 2 184749))) (93229 ∷ [])
+    ∷ gives (scotopic 380 1 (at460 111593)) (107573 ∷ [])
+    ∷ gives (scotopic 380 1 (at460 111592)) (107572 ∷ [])
+    ∷ gives (photopic10 380 1 (lone 401 173 189947)) (129429 ∷ [])
+    ∷ gives (mesopic 500 380 1 (mix (at555 640885) (lone 401 49 31715))) (440877 ∷ [])
+    ∷ gives (xyz 10 380 1 (lone 401 94 189947)) (18783 ∷ 27741 ∷ 141275 ∷ [])
+    -- our own: light as at 555.017, of which a watt has 683 lumens by V, V10 and V′
+    ∷ gives (photopic 380 1 atTheReference) (683000 ∷ [])
+    ∷ gives (scotopic 380 1 atTheReference) (683000 ∷ [])
+    ∷ gives (photopic10 380 1 atTheReference) (683000 ∷ [])
+    ∷ gives (mesopic 500 380 1 atTheReference) (683000 ∷ [])
+    ∷ gives (xyz 2 380 1 atTheReference) (349920 ∷ 683000 ∷ 3922 ∷ [])
+    ∷ gives (xyz 10 380 1 atTheReference) (421342 ∷ 683000 ∷ 741 ∷ [])
     -- our own: a lone 1 at 460, whose X and Y round to 0
     ∷ gives (xyz 2 380 1 (at460 1)) (0 ∷ 0 ∷ 1 ∷ [])
     ∷ gives (xy 2 380 1 (at460 1)) (14396 ∷ 2970 ∷ [])
@@ -97,13 +119,13 @@ rows =
     ∷ refuses (xy 2 300 10 (replicate 6 1000000 ++ replicate 48 0)) 9 0
     -- our own: both ends lit, from 380 to 780, where they are carried to 360 and to 830, and from 300 to 830, where they aren't
     ∷ gives (scotopic 380 1 (litEnds 401)) (1002 ∷ [])
-    ∷ gives (mesopic 500 380 1 (litEnds 401)) (552 ∷ [])
+    ∷ gives (mesopic 500 380 1 (litEnds 401)) (553 ∷ [])
     ∷ gives (xyz 2 380 1 (litEnds 401)) (8055 ∷ 372 ∷ 35939 ∷ [])
-    ∷ gives (xyz 10 380 1 (litEnds 401)) (761 ∷ 187 ∷ 1771 ∷ [])
+    ∷ gives (xyz 10 380 1 (litEnds 401)) (761 ∷ 187 ∷ 1770 ∷ [])
     ∷ gives (xy 2 380 1 (litEnds 401)) (18156 ∷ 839 ∷ [])
-    ∷ gives (scotopic 380 10 (litEnds 41)) (8489 ∷ [])
+    ∷ gives (scotopic 380 10 (litEnds 41)) (8490 ∷ [])
     ∷ gives (xyz 2 380 10 (litEnds 41)) (14478 ∷ 611 ∷ 65458 ∷ [])
-    ∷ gives (xyz 10 380 10 (litEnds 41)) (2591 ∷ 422 ∷ 9275 ∷ [])
+    ∷ gives (xyz 10 380 10 (litEnds 41)) (2589 ∷ 422 ∷ 9270 ∷ [])
     ∷ gives (xyz 2 300 1 (litEnds 531)) (1 ∷ 0 ∷ 0 ∷ [])
     ∷ gives (xyz 2 300 10 (litEnds 54)) (6 ∷ 2 ∷ 0 ∷ [])
     ∷ gives (xyz 10 300 10 (litEnds 54)) (7 ∷ 3 ∷ 0 ∷ [])
@@ -114,15 +136,15 @@ rows =
     ∷ gives (xyz 2 380 1 (lone 401 0 1000000)) (7647 ∷ 225 ∷ 35939 ∷ [])
     ∷ gives (xyz 2 380 10 (lone 41 0 1000000)) (13903 ∷ 403 ∷ 65458 ∷ [])
     -- our own: 1,000,000 at each of 360 to 830, the most that any light can have; and from 380 to 780, which has no less
-    ∷ gives (photopic 360 1 fullLight) (72983274 ∷ [])
-    ∷ gives (scotopic 360 1 fullLight) (165021238 ∷ [])
-    ∷ gives (photopic10 360 1 fullLight) (79796724 ∷ [])
-    ∷ gives (mesopic 0 360 1 fullLight) (164924650 ∷ [])
-    ∷ gives (mesopic 500 360 1 fullLight) (99345923 ∷ [])
-    ∷ gives (mesopic 1000 360 1 fullLight) (72983274 ∷ [])
-    ∷ gives (xyz 2 360 1 fullLight) (72989116 ∷ 72983274 ∷ 73007408 ∷ [])
-    ∷ gives (xyz 10 360 1 fullLight) (79787587 ∷ 79796724 ∷ 79805003 ∷ [])
-    ∷ gives (xyz 2 380 10 (replicate 41 1000000)) (72989116 ∷ 72983274 ∷ 73007408 ∷ [])
+    ∷ gives (photopic 360 1 fullLight) (72983452 ∷ [])
+    ∷ gives (scotopic 360 1 fullLight) (165033523 ∷ [])
+    ∷ gives (photopic10 360 1 fullLight) (79750145 ∷ [])
+    ∷ gives (mesopic 0 360 1 fullLight) (165033523 ∷ [])
+    ∷ gives (mesopic 500 360 1 fullLight) (99364891 ∷ [])
+    ∷ gives (mesopic 1000 360 1 fullLight) (72983452 ∷ [])
+    ∷ gives (xyz 2 360 1 fullLight) (72989293 ∷ 72983452 ∷ 73007585 ∷ [])
+    ∷ gives (xyz 10 360 1 fullLight) (79741014 ∷ 79750145 ∷ 79758419 ∷ [])
+    ∷ gives (xyz 2 380 10 (replicate 41 1000000)) (72989293 ∷ 72983452 ∷ 73007585 ∷ [])
     -- our own: a full white panel for observer 10, and its x and y
     ∷ gives (panelXyz 10 1 360 1 (replicate 471 10000)) (111144 ∷ 100000 ∷ 35200 ∷ [])
     ∷ gives (panelXyz 10 2 360 1 (replicate 471 10000)) (94811 ∷ 100000 ∷ 107305 ∷ [])

@@ -8,7 +8,7 @@ use Rattle.tables.specs.declared.Curve.the-variants.{YBar, ZBar}
 use Rattle.tables.specs.Tables.{zBar}
 use Rattle.tables.specs.Curves.{weightOf}
 use Rattle.spectrum.specs.Line.{T}
-use Rattle.readings.specs.Readings.{inMillilux}
+use Rattle.efficacy.specs.Efficacy.{inMillilux}
 
 -- x from the rounded X, Y, Z
 abbrev pub xFromRounded : ℕ → ℕ → ℕ → ℕ

@@ -2,9 +2,8 @@
 use mathlib.Core.Path.{_≡_, refl, sym}
 use mathlib.Core.Bool.{true}
 use mathlib.Core.List.{List, [], _∷_}
-use Prim.Native.Nat.{ℕ, _+_, _*_, _-_, _^_, _≤_, _<_}
+use Prim.Native.Nat.{ℕ, _+_, _*_, _-_, _≤_}
 use native.Mathlib.Nat.{add-comm}
-use native.Mathlib.Omega.{arith}
 use borrow.Author.Tests.{le-leb}
 use lib.ListN.{length, getD}
 use Rattle.grid.specs.declared.Check.the-variants.{Fine}
@@ -17,14 +16,15 @@ use Rattle.tables.specs.declared.Curve.{Curve}
 use Rattle.tables.specs.declared.Curve.the-variants.{YBar, VPrime}
 use Rattle.tables.specs.Curves.{weightOf}
 use Rattle.spectrum.proofs.Measured.{W-linear}
-use Rattle.grid.proofs.Light.{grid-fine, on-grid}
+use Rattle.grid.proofs.Light.{grid-fine}
 use Rattle.answers.specs.Said.{saidReading, saidXyz, saidXy}
 use Rattle.curves.specs.Observer.{curvesOf}
 use Rattle.answers.proofs.Mixed.{AllLinear, each-unit, each-order, xy-between, xy-one-dark}
-use Rattle.readings.specs.Readings.{weighed, efficacyOf, illuminanceOf, mesopicWeighed, mesopicOf, xyzOf, xyOf}
+use Rattle.efficacy.specs.Divisors.{divisorOf}
+use Rattle.readings.specs.Readings.{weighed, illuminanceOf, mesopicWeighed, mesopicOf, xyzOf, xyOf}
 use Rattle.readings.specs.Sums.{mesopicDivisor}
-use Rattle.readings.proofs.Worked.{mesopic-is}
-use Rattle.readings.proofs.Small.{mesopic-fits}
+use Rattle.readings.proofs.Worked.{illuminance-is, mesopic-is, xyz-is}
+use Rattle.readings.proofs.Small.{millilux-fits, mesopic-fits}
 use Rattle.light_promises.specs.Lights.{Mixable, OneUnit, InOrder, BothLit, OneDark}
 
 pub mixture-accepted : (a s : ℕ) (xs ys : List ℕ) → Mixable a s xs ys → lightCheck a s (mix xs ys) ≡ Fine
@@ -44,26 +44,21 @@ swapped a s xs ys m = record {
 curve-linear : (n : ℕ) (c : Curve) (a s : ℕ) → Linear n (λ xs. weighed c a s xs)
 curve-linear n c a s = W-linear n (weightOf c) a s
 
-scale-pos : (a s : ℕ) (xs : List ℕ) → lightCheck a s xs ≡ Fine → 0 < s * 10 ^ 16
-scale-pos a s xs fine = let h = on-grid a s xs fine .step-low in omega arith
+factor-linear : (n : ℕ) (c : Curve) (a s : ℕ) → Linear n (λ xs. 683 * weighed c a s xs)
+factor-linear n c a s = linear-times n 683 (λ xs. weighed c a s xs) (curve-linear n c a s)
 
 module _ (c : Curve) where
-  efficacy-linear : (n a s : ℕ) → Linear n (λ xs. efficacyOf c * weighed c a s xs)
-  efficacy-linear n a s = linear-times n (efficacyOf c) (λ xs. weighed c a s xs) (curve-linear n c a s)
-
   pub illuminance-unit : OneUnit (λ a s xs. saidReading (illuminanceOf c a s xs))
-  unfolding illuminanceOf
   illuminance-unit a s xs ys m =
-      rw (m .first, m .second, mixture-accepted a s xs ys m)
-      (each-unit (length xs) (s * 10 ^ 16) (scale-pos a s xs (m .first)) xs ys refl (sym (m .one-grid)) ((λ zs. efficacyOf c * weighed c a s zs) ∷ [])
-      (efficacy-linear (length xs) a s, tt))
+      rw (illuminance-is a s xs c, illuminance-is a s ys c, illuminance-is a s (mix xs ys) c, m .first, m .second, mixture-accepted a s xs ys m)
+      (each-unit (length xs) (s * divisorOf c) (millilux-fits a s xs (m .first) c .divisor) xs ys refl (sym (m .one-grid))
+      ((λ zs. 683 * weighed c a s zs) ∷ []) (factor-linear (length xs) c a s, tt))
 
   pub illuminance-order : InOrder (λ a s xs. saidReading (illuminanceOf c a s xs))
-  unfolding illuminanceOf
   illuminance-order a s xs ys p q l b =
-      rw (p, q)
-      (each-order (length xs) (s * 10 ^ 16) (scale-pos a s xs p) xs ys refl (sym l) ((λ zs. efficacyOf c * weighed c a s zs) ∷ [])
-      (efficacy-linear (length xs) a s, tt) b)
+      rw (illuminance-is a s xs c, illuminance-is a s ys c, p, q)
+      (each-order (length xs) (s * divisorOf c) (millilux-fits a s xs p c .divisor) xs ys refl (sym l)
+      ((λ zs. 683 * weighed c a s zs) ∷ []) (factor-linear (length xs) c a s, tt) b)
 
 module _ (k : ℕ) (few : k ≤ 1000) where
   mesopic-linear : (n a s : ℕ) → Linear n (λ xs. 683 * mesopicWeighed k a s xs)
@@ -98,23 +93,25 @@ module _ (o : ℕ) (t : isObserver o ≡ true) where
   colours a s = by (curvesOf o .x) ∷ by (curvesOf o .y) ∷ by (curvesOf o .z) ∷ []
     where
       by : Curve → List ℕ → ℕ
-      by c zs = efficacyOf c * weighed c a s zs
+      by c zs = 683 * weighed c a s zs
 
   colours-linear : (n a s : ℕ) → AllLinear n (colours a s)
   colours-linear n a s =
-      (efficacy-linear (curvesOf o .x) n a s, (efficacy-linear (curvesOf o .y) n a s, (efficacy-linear (curvesOf o .z) n a s, tt)))
+      (factor-linear n (curvesOf o .x) a s, (factor-linear n (curvesOf o .y) a s, (factor-linear n (curvesOf o .z) a s, tt)))
 
   pub xyz-mixed : OneUnit (λ a s xs. saidXyz (xyzOf o a s xs))
-  unfolding xyzOf
   xyz-mixed a s xs ys m =
-      rw (t, m .first, m .second, mixture-accepted a s xs ys m)
-      (each-unit (length xs) (s * 10 ^ 16) (scale-pos a s xs (m .first)) xs ys refl (sym (m .one-grid)) (colours a s) (colours-linear (length xs) a s))
+      let y = curvesOf o .y in
+      rw (xyz-is a s xs o, xyz-is a s ys o, xyz-is a s (mix xs ys) o, t, m .first, m .second, mixture-accepted a s xs ys m)
+      (each-unit (length xs) (s * divisorOf y) (millilux-fits a s xs (m .first) y .divisor) xs ys refl (sym (m .one-grid))
+      (colours a s) (colours-linear (length xs) a s))
 
   pub xyz-ordered : InOrder (λ a s xs. saidXyz (xyzOf o a s xs))
-  unfolding xyzOf
   xyz-ordered a s xs ys p q l b =
-      rw (t, p, q)
-      (each-order (length xs) (s * 10 ^ 16) (scale-pos a s xs p) xs ys refl (sym l) (colours a s) (colours-linear (length xs) a s) b)
+      let y = curvesOf o .y in
+      rw (xyz-is a s xs o, xyz-is a s ys o, t, p, q)
+      (each-order (length xs) (s * divisorOf y) (millilux-fits a s xs p y .divisor) xs ys refl (sym l)
+      (colours a s) (colours-linear (length xs) a s) b)
 
   pub between : BothLit (λ a s xs. saidXy (xyOf o a s xs))
   unfolding xyOf

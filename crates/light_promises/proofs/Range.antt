@@ -2,7 +2,7 @@
 use mathlib.Core.Path.{_≡_, refl}
 use mathlib.Core.Bool.{true}
 use mathlib.Core.List.{List, [], _∷_}
-use Prim.Native.Nat.{ℕ, zero, suc, _+_, _*_, _-_, _^_, _≤_, zero-le}
+use Prim.Native.Nat.{ℕ, zero, suc, _+_, _*_, _-_, _≤_, zero-le}
 use native.Mathlib.Nat.{le-refl, mul-left-comm, mul-le-mul-left}
 use native.Mathlib.Omega.{arith}
 use borrow.Author.Tests.{le-leb}
@@ -22,7 +22,9 @@ use Rattle.answers.specs.Worked.{xyFrom, onChart}
 use Rattle.answers.specs.Said.{saidReading, saidXyz, saidXy, saidOnChart, saidChart}
 use Rattle.answers.proofs.Values.{xy-unless-dark, xy-most, chart-number}
 use Rattle.curves.specs.Observer.{curvesOf}
-use Rattle.readings.specs.Readings.{efficacyOf, millilux, illuminanceOf, mesopicOf, mesopicWeighed, mesopicMillilux, xyzOf, xyOf, chartOf, figuresOf}
+use Rattle.efficacy.specs.Divisors.{divisorOf}
+use Rattle.efficacy.proofs.Worked.{millilux-worked}
+use Rattle.readings.specs.Readings.{weighed, millilux, illuminanceOf, mesopicOf, mesopicWeighed, mesopicMillilux, xyzOf, xyOf, chartOf, figuresOf}
 use Rattle.readings.specs.Figures.{saidFigures}
 use Rattle.readings.proofs.Setting.{mixed-times, mixed-order}
 use Rattle.readings.proofs.Worked.{mesopic-worked}
@@ -33,15 +35,17 @@ use Rattle.light_promises.proofs.Constant.{light-accepted, nearest-cons
 
 module _ (c : Curve) where
   abbrev greatest : ℕ
-  greatest = nearest (efficacyOf c * (1000000 * tableSum c)) (10 ^ 16)
+  greatest = nearest (683 * (1000000 * tableSum c)) (divisorOf c)
 
   millilux-most : (a s : ℕ) (xs : List ℕ) → lightCheck a s xs ≡ Fine → millilux c a s xs ≤ greatest
   millilux-most a s xs fine =
-      rw (column-total c) at (no-more (weightOf c) (efficacyOf c) (10 ^ 16) s 1000000 a xs (on-grid a s xs fine .step-low) (within a s xs fine))
+      rw (millilux-worked c s (weighed c a s xs))
+      (rw (column-total c) at (no-more (weightOf c) 683 (divisorOf c) s 1000000 a xs (on-grid a s xs fine .step-low) (within a s xs fine)))
 
   millilux-full : (a s n : ℕ) → gridCheck a s n ≡ Fine → millilux c a s (replicate n 1000000) ≡ greatest
   millilux-full a s n fine =
-      rw (column-total c) at (nearest-constant (weightOf c) (efficacyOf c) (10 ^ 16) s 1000000 a n (accepted a s n fine))
+      rw (millilux-worked c s (weighed c a s (replicate n 1000000)))
+      (rw (column-total c) at (nearest-constant (weightOf c) 683 (divisorOf c) s 1000000 a n (accepted a s n fine)))
 
 -- a light at the limit at every sample
 full-accepted : (a s n : ℕ) → gridCheck a s n ≡ Fine → lightCheck a s (replicate n 1000000) ≡ Fine
@@ -86,7 +90,7 @@ module _ (k : ℕ) where
   full = k * (1000000 * tableSum YBar) + (1000 - k) * (1000000 * tableSum VPrime)
 
   abbrev divisor : ℕ
-  divisor = k * 10 ^ 16 + (1000 - k) * 4020000000000000
+  divisor = k * divisorOf YBar + (1000 - k) * divisorOf VPrime
 
   abbrev greatestAt : ℕ
   greatestAt = nearest (683 * full) divisor
@@ -98,7 +102,7 @@ module _ (k : ℕ) where
       let sum = rw (mixed-times s k (1000 - k) (1000000 * tableSum YBar) (1000000 * tableSum VPrime)) at
       (mixed-order k (1000 - k) (most YBar) (most VPrime)) in
       let all = rw (mul-left-comm 683 s full) at (mul-le-mul-left 683 sum) in
-      rw (mesopic-worked k a s xs, mixed-times s k (1000 - k) (10 ^ 16) 4020000000000000)
+      rw (mesopic-worked k a s xs, mixed-times s k (1000 - k) (divisorOf YBar) (divisorOf VPrime))
       (nearest-scaled s (683 * mesopicWeighed k a s xs) (683 * full) divisor low all)
 
   mesopic-full : (a s n : ℕ) → gridCheck a s n ≡ Fine → mesopicMillilux k a s (replicate n 1000000) ≡ greatestAt
@@ -112,14 +116,14 @@ module _ (k : ℕ) where
         column-total YBar,
         column-total VPrime,
         mixed-times s k (1000 - k) (1000000 * tableSum YBar) (1000000 * tableSum VPrime),
-        mixed-times s k (1000 - k) (10 ^ 16) 4020000000000000,
+        mixed-times s k (1000 - k) (divisorOf YBar) (divisorOf VPrime),
         mul-left-comm 683 s full,
       )
       (nearest-cancel s (683 * full) divisor (on .step-low))
 
-  mesopic-is : mesopicGreatest k ≡ greatestAt
+  greatest-is : mesopicGreatest k ≡ greatestAt
   unfolding gridCheck
-  mesopic-is = mesopic-full 360 1 471 refl
+  greatest-is = mesopic-full 360 1 471 refl
 
   pub mesopic-range : k ≤ 1000 → Greatest (λ a s xs. saidReading (mesopicOf k a s xs)) (mesopicGreatest k ∷ [])
   unfolding mesopicOf
@@ -127,18 +131,18 @@ module _ (k : ℕ) where
       let t = le-leb k 1000 few in
       record {
         is-given = λ a s xs fine. rw (t, fine);
-        at-most = λ a s xs fine. rw (t, fine, mesopic-is) (one (mesopic-most a s xs fine));
-        attained = λ a s n fine. rw (t, full-accepted a s n fine, mesopic-is, mesopic-full a s n fine);
+        at-most = λ a s xs fine. rw (t, fine, greatest-is) (one (mesopic-most a s xs fine));
+        attained = λ a s n fine. rw (t, full-accepted a s n fine, greatest-is, mesopic-full a s n fine);
       }
 
-pub mesopic-0 : mesopicGreatest 0 ≡ 164924650
+pub mesopic-0 : mesopicGreatest 0 ≡ 165033523
 unfolding nearest
-mesopic-0 = mesopic-is 0
+mesopic-0 = greatest-is 0
 
 pub mesopic-any : (k : ℕ) → k ≤ 1000 → mesopicGreatest k ≤ mesopicGreatest 0
 mesopic-any k few =
-    let less = nearest-lt (683 * full k) (divisor k) (omega arith) 164924651 .1 (omega arith) in
-    rw (mesopic-0, mesopic-is k) (omega arith)
+    let less = nearest-lt (683 * full k) (divisor k) (omega arith) 165033524 .1 (omega arith) in
+    rw (mesopic-0, greatest-is k) (omega arith)
 
 -- the chart's point is dark where x and y are
 pub coordinates : (x y z : ℕ) → Coordinates (saidXy (xyFrom x y z)) (saidOnChart (onChart (xyFrom x y z)))

@@ -29,7 +29,8 @@ use Rattle.answers.specs.declared.ChartAnswer.{ChartAnswer}
 use Rattle.answers.specs.Worked.{xyFrom, onChart}
 use Rattle.curves.specs.Observer.{curvesOf}
 use Rattle.readings.specs.declared.figures.FiguresAnswer.{FiguresAnswer}
-use Rattle.readings.specs.Readings.{weighed, efficacyOf, illuminanceOf, mesopicOf, xyzOf, xyOf, chartOf, figuresOf}
+use Rattle.efficacy.specs.Efficacy.{efficacyOf}
+use Rattle.readings.specs.Readings.{weighed, illuminanceOf, mesopicOf, xyzOf, xyOf, chartOf, figuresOf}
 use Rattle.light_promises.specs.Lights.{Unlit, Colourless}
 use Rattle.light_promises.proofs.Constant.{light-accepted}
 
@@ -56,7 +57,7 @@ module _ (a s : ℕ) (xs : List ℕ) (fine : lightCheck a s xs ≡ Fine) where
 
   pub no-illuminance : (c : Curve) → Unlit c a s xs → illuminanceOf c a s xs ≡ Reading.Value 0
   unfolding illuminanceOf
-  no-illuminance c unlit = rw (fine, no-sum c unlit, mul-zero (efficacyOf c), nearest-none)
+  no-illuminance c unlit = rw (fine, no-sum c unlit, mul-zero (efficacyOf c .over), nearest-none)
 
   pub no-mesopic : (k : ℕ) → k ≤ 1000 → Unlit YBar a s xs → Unlit VPrime a s xs → mesopicOf k a s xs ≡ Reading.Value 0
   unfolding mesopicOf
@@ -86,4 +87,4 @@ module _ (a s : ℕ) (xs : List ℕ) (fine : lightCheck a s xs ≡ Fine) where
       ≡ FiguresAnswer.Value
       (record { photopic = 0; scotopic = 0; xyz = record { x = 0; y = 0; z = 0 }; xy = XyAnswer.Refused (refusal DARK 0) })
   unfolding figuresOf xyFrom
-  no-figures unlit night = let none = no-sums 2 refl unlit in rw (fine, none .0, none .1, none .2, no-sum VPrime night, nearest-none)
+  no-figures unlit night = let none = no-sums 2 refl unlit in rw (fine, none .0, none .1, none .2, no-sum VPrime night) (simp (mul-zero, nearest-none))

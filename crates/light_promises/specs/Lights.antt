@@ -1,4 +1,5 @@
--- What is promised of mixed light, of light in order, of darkness and of the mesopic reading by day, said of these readings.
+-- What is promised of mixed light, of light in order, of darkness and of the mesopic reading by day and by night, said of these
+-- readings.
 use mathlib.Core.Path.{_≡_}
 use mathlib.Core.Bool.{true}
 use mathlib.Core.List.{List, [], _∷_, _++_}
@@ -125,6 +126,7 @@ pub record Darkness : Type 0 where
       (a s : ℕ) (xs : List ℕ) → lightCheck a s xs ≡ Fine → Colourless 2 a s xs → Unlit VPrime a s xs →
       saidFigures (figuresOf a s xs) ≡ given (0 ∷ 0 ∷ 0 ∷ 0 ∷ 0 ∷ DARK ∷ 0 ∷ 0 ∷ []) []
 
--- at k = 1000 the mesopic reading is the photopic one, refusals and all
-pub record AtThousand : Type 0 where
-  pub mesopic : (a s : ℕ) (xs : List ℕ) → saidReading (mesopicOf 1000 a s xs) ≡ saidReading (photopicOf a s xs)
+-- at k = 0 the mesopic reading is the scotopic one and at k = 1000 the photopic one, refusals and all
+pub record MesopicEnds : Type 0 where
+  pub night : (a s : ℕ) (xs : List ℕ) → saidReading (mesopicOf 0 a s xs) ≡ saidReading (scotopicOf a s xs)
+  pub day : (a s : ℕ) (xs : List ℕ) → saidReading (mesopicOf 1000 a s xs) ≡ saidReading (photopicOf a s xs)

@@ -39,15 +39,15 @@ pub record Range : Type 0 where
   -- for any weights and any row within a limit, W is at most s times the limit times the sum of the weights
   pub law :
       (v : ℕ → ℕ) (a s limit : ℕ) (xs : List ℕ) → 0 < s → Within limit xs → W v a s xs ≤ s * limit * total 471 v
-  pub photopic : Greatest (λ a s xs. saidReading (photopicOf a s xs)) (72983274 ∷ [])
-  pub scotopic : Greatest (λ a s xs. saidReading (scotopicOf a s xs)) (165021238 ∷ [])
-  pub photopic-10 : Greatest (λ a s xs. saidReading (photopic10Of a s xs)) (79796724 ∷ [])
+  pub photopic : Greatest (λ a s xs. saidReading (photopicOf a s xs)) (72983452 ∷ [])
+  pub scotopic : Greatest (λ a s xs. saidReading (scotopicOf a s xs)) (165033523 ∷ [])
+  pub photopic-10 : Greatest (λ a s xs. saidReading (photopic10Of a s xs)) (79750145 ∷ [])
   pub mesopic : (k : ℕ) → k ≤ 1000 → Greatest (λ a s xs. saidReading (mesopicOf k a s xs)) (mesopicGreatest k ∷ [])
   -- the most of all is that at k = 0
   pub mesopic-any : (k : ℕ) → k ≤ 1000 → mesopicGreatest k ≤ mesopicGreatest 0
-  pub mesopic-0 : mesopicGreatest 0 ≡ 164924650
-  pub xyz : Greatest (λ a s xs. saidXyz (xyzOf 2 a s xs)) (72989116 ∷ 72983274 ∷ 73007408 ∷ [])
-  pub xyz-10 : Greatest (λ a s xs. saidXyz (xyzOf 10 a s xs)) (79787587 ∷ 79796724 ∷ 79805003 ∷ [])
+  pub mesopic-0 : mesopicGreatest 0 ≡ 165033523
+  pub xyz : Greatest (λ a s xs. saidXyz (xyzOf 2 a s xs)) (72989293 ∷ 72983452 ∷ 73007585 ∷ [])
+  pub xyz-10 : Greatest (λ a s xs. saidXyz (xyzOf 10 a s xs)) (79741014 ∷ 79750145 ∷ 79758419 ∷ [])
   pub xy :
       (o a s : ℕ) (xs : List ℕ) → isObserver o ≡ true → lightCheck a s xs ≡ Fine →
       Coordinates (saidXy (xyOf o a s xs)) (saidChart (chartOf o a s xs))

@@ -1,7 +1,7 @@
 // What is promised of a light's readings: their range, how mixed light behaves, the order of light, darkness, and the mesopic
-// reading by day.
+// reading by day and by night.
 ghost use Rattle.light_promises.specs.Range.{Range};
-ghost use Rattle.light_promises.specs.Lights.{Mixing, Order, Darkness, AtThousand};
+ghost use Rattle.light_promises.specs.Lights.{Mixing, Order, Darkness, MesopicEnds};
 
 pub fn promise_range()
     ensures { λ _. ⌜ Range ⌝ }
@@ -19,6 +19,6 @@ pub fn promise_darkness()
     ensures { λ _. ⌜ Darkness ⌝ }
 {}
 
-pub fn promise_at_thousand()
-    ensures { λ _. ⌜ AtThousand ⌝ }
+pub fn promise_mesopic_ends()
+    ensures { λ _. ⌜ MesopicEnds ⌝ }
 {}

@@ -32,6 +32,7 @@ use Rattle.curves.proofs.weigh.curves_of.Reads as curves-of
 use Rattle.curves.proofs.weigh.weigh.Reads as weigh
 use Rattle.curves.proofs.weigh.row_sums.Reads as row-sums
 use Rattle.curves.proofs.lit.lit_sums.Reads as lit-sums
+use Rattle.efficacy.proofs.divisor.Reads as divisor
 use Rattle.spectrum.proofs.line.begin_at_360.Reads as begin-at-360
 use Rattle.spectrum.proofs.line.lay.Reads as lay
 use Rattle.answers.proofs.work.xyz_from.Reads as xyz-from
@@ -160,6 +161,11 @@ one-row-sums k a r q e f p s =
 one-lit-sums : OneResult (Fitting SumsFit lit-sums.Post)
 one-lit-sums k a r q e f p s =
     same-sums (p .0) (s .0) (same (p .1 .x) (s .1 .x)) (same (p .1 .y) (s .1 .y)) (same (p .1 .z) (s .1 .z))
+
+-- efficacy
+
+one-divisor : OneResult (Fitting ShortFits divisor.Post)
+one-divisor k a r q e f p s = same-short (p .0) (s .0) (same (p .1) (s .1))
 
 -- spectrum
 

@@ -10,6 +10,7 @@ use Rattle.grid.specs.Check.{refusal, isObserver, lightCheck}
 use Rattle.grid.proofs.Limit.{passed}
 use Rattle.grid.proofs.Light.{within, on-grid}
 use Rattle.exact.specs.Value.{short}
+use Rattle.efficacy.specs.Divisors.{divisorOf}
 use Rattle.tables.specs.declared.Curve.{Curve}
 use Rattle.tables.specs.Curves.{weightOf}
 use Rattle.curves.specs.declared.weigh.Sums.{Sums}
@@ -21,8 +22,9 @@ use Rattle.spectrum.proofs.Begin.{partFrom, few, begun, W-begun}
 use Rattle.answers.specs.declared.from_sums.SumsAnswer.{SumsAnswer}
 use Rattle.answers.specs.FromSums.{ShortTotal, XyzFit}
 use Rattle.answers.proofs.FromSums.{given-sums}
-use Rattle.readings.specs.Readings.{weighed, efficacyOf, colourCheck}
+use Rattle.readings.specs.Readings.{weighed, colourCheck}
 use Rattle.readings.specs.Sums.{LightSums, LightSummed}
+use Rattle.readings.proofs.Worked.{one-divisor}
 use Rattle.readings.proofs.Small.{weighed-small, millilux-fits}
 
 -- a light that passed its checks
@@ -50,11 +52,15 @@ module _ {a s : ℕ} {xs : List ℕ} (light : AcceptedLight a s xs) where
   -- and each of the three gives millilux of 32 bits
   pub xyz-fit :
       {o : ℕ} {sums : Sums} → LightSums o a s xs sums →
-      XyzFit (efficacyOf (curvesOf o .x) * short (sums .x)) (efficacyOf (curvesOf o .y) * short (sums .y))
-      (efficacyOf (curvesOf o .z) * short (sums .z)) (s * 10 ^ 16)
+      XyzFit (683 * short (sums .x)) (683 * short (sums .y)) (683 * short (sums .z)) (s * divisorOf (curvesOf o .y))
   xyz-fit {o} is =
       let fits = millilux-fits a s xs (light .fine) in
-      rw (is .x, is .y, is .z) (record { x-fits = fits (curvesOf o .x); y-fits = fits (curvesOf o .y); z-fits = fits (curvesOf o .z) })
+      let one = one-divisor o in
+      rw (is .x, is .y, is .z) (record {
+        x-fits = rw (one .0) at (fits (curvesOf o .x));
+        y-fits = fits (curvesOf o .y);
+        z-fits = rw (one .1) at (fits (curvesOf o .z));
+      })
 
 -- and so did one whose observer passed too
 pub light-of : (o a s : ℕ) (xs : List ℕ) → colourCheck o a s xs ≡ Fine → AcceptedLight a s xs

@@ -7,7 +7,7 @@ use Rattle.grid.specs.declared.Check.{Check}
 use Rattle.grid.specs.Check.{unless, require, isObserver, lightCheck}
 use Rattle.mixing.specs.Nearest.{nearest}
 use Rattle.tables.specs.declared.Curve.{Curve}
-use Rattle.tables.specs.declared.Curve.the-variants.{XBar, YBar, ZBar, XBar10, YBar10, ZBar10, VPrime}
+use Rattle.tables.specs.declared.Curve.the-variants.{YBar, YBar10, VPrime}
 use Rattle.tables.specs.Curves.{weightOf}
 use Rattle.spectrum.specs.Line.{W}
 use Rattle.answers.specs.declared.Reading.{Reading}
@@ -16,6 +16,7 @@ use Rattle.answers.specs.declared.XyzAnswer.{XyzAnswer}
 use Rattle.answers.specs.declared.XyAnswer.{XyAnswer}
 use Rattle.answers.specs.declared.ChartAnswer.{ChartAnswer}
 use Rattle.answers.specs.Worked.{xyFrom, onChart}
+use Rattle.efficacy.specs.Efficacy.{inMillilux, mesopicBracket}
 use Rattle.curves.specs.Observer.{curvesOf}
 use Rattle.readings.specs.declared.figures.ReportFigures.{ReportFigures}
 use Rattle.readings.specs.declared.figures.FiguresAnswer.{FiguresAnswer}
@@ -24,20 +25,7 @@ use Rattle.readings.specs.declared.figures.FiguresAnswer.{FiguresAnswer}
 abbrev pub weighed : Curve → ℕ → ℕ → List ℕ → ℕ
 weighed c a s xs = W (weightOf c) a s xs
 
--- the efficacy: 683, for the curves of observer 10 684, and for V′ 1700
-abbrev pub efficacyOf : Curve → ℕ
-efficacyOf XBar = 683
-efficacyOf YBar = 683
-efficacyOf ZBar = 683
-efficacyOf XBar10 = 684
-efficacyOf YBar10 = 684
-efficacyOf ZBar10 = 684
-efficacyOf VPrime = 1700
-
--- in millilux: the nearest of efficacy · W / (s · 10^16)
-abbrev pub inMillilux : Curve → ℕ → ℕ → ℕ
-inMillilux c s w = nearest (efficacyOf c * w) (s * 10 ^ 16)
-
+-- W in millilux
 abbrev pub millilux : Curve → ℕ → ℕ → List ℕ → ℕ
 millilux c a s xs = inMillilux c s (weighed c a s xs)
 
@@ -65,13 +53,9 @@ mesopicCheck k a s xs = require (leb k 1000) MESOPIC (lightCheck a s xs)
 abbrev pub mesopicWeighed : ℕ → ℕ → ℕ → List ℕ → ℕ
 mesopicWeighed k a s xs = k * weighed YBar a s xs + (1000 - k) * weighed VPrime a s xs
 
--- 1000 k + 402 (1000 - k)
-abbrev pub mesopicBracket : ℕ → ℕ
-mesopicBracket k = 1000 * k + 402 * (1000 - k)
-
--- in millilux: the nearest of 683000 (k · W(V) + (1000 - k) · W(V′)) / (s · 10^16 · bracket)
+-- in millilux: the nearest of 683000 (k · W(V) + (1000 - k) · W(V′)) / (s · 10^16 · bracket), with the bracket's own 10^16 above
 abbrev pub mesopicMillilux : ℕ → ℕ → ℕ → List ℕ → ℕ
-mesopicMillilux k a s xs = nearest (683000 * mesopicWeighed k a s xs) (s * 10 ^ 16 * mesopicBracket k)
+mesopicMillilux k a s xs = nearest (683000 * 10 ^ 16 * mesopicWeighed k a s xs) (s * 10 ^ 16 * mesopicBracket k)
 
 -- the mesopic reading at k
 unfoldable pub mesopicOf : ℕ → ℕ → ℕ → List ℕ → Reading

@@ -11,10 +11,15 @@ use Rattle.curves.specs.Observer.{SumsBy}
 use Rattle.answers.specs.declared.from_sums.SumsAnswer.{SumsAnswer}
 use Rattle.answers.specs.Worked.{xyzFrom, xyFrom}
 use Rattle.answers.specs.FromSums.{Summed, XyzFit}
-use Rattle.tables.specs.declared.Curve.the-variants.{XBar, YBar, ZBar, VPrime}
+use Rattle.efficacy.specs.Divisors.{divisorOf}
+use Rattle.tables.specs.declared.Curve.the-variants.{YBar, VPrime}
 use Rattle.readings.specs.declared.sums.FigureSums.{FigureSums}
 use Rattle.readings.specs.declared.figures.ReportFigures.{ReportFigures}
-use Rattle.readings.specs.Readings.{weighed, efficacyOf, colourCheck}
+use Rattle.readings.specs.Readings.{weighed, colourCheck}
+
+-- 683 times the mesopic sum is divided by this
+abbrev pub mesopicDivisor : ℕ → ℕ → ℕ
+mesopicDivisor k s = k * (s * divisorOf YBar) + (1000 - k) * (s * divisorOf VPrime)
 
 -- W of each of the observer's curves
 abbrev pub LightSums : ℕ → ℕ → ℕ → List ℕ → Sums → Type 0
@@ -32,21 +37,16 @@ pub record FigureSumsOf (a s : ℕ) (xs : List ℕ) (sums : FigureSums) : Type 0
 -- four sums at step s whose figures are numbers of 32 bits, and whose three for colour come to one of 96
 pub record FiguresFit (s : ℕ) (sums : FigureSums) : Type 0 where
   pub xyz :
-      XyzFit (efficacyOf XBar * short (sums .colour .x)) (efficacyOf YBar * short (sums .colour .y))
-      (efficacyOf ZBar * short (sums .colour .z)) (s * 10 ^ 16)
-  pub scotopic : Fits (efficacyOf VPrime * short (sums .night)) (s * 10 ^ 16)
+      XyzFit (683 * short (sums .colour .x)) (683 * short (sums .colour .y)) (683 * short (sums .colour .z)) (s * divisorOf YBar)
+  pub scotopic : Fits (683 * short (sums .night)) (s * divisorOf VPrime)
   pub total : short (sums .colour .x) + short (sums .colour .y) + short (sums .colour .z) < 2 ^ 96
 
 -- the figures of the report at step s from the sums x, y, z of observer 2 and that of V′: photopic is Y
 abbrev pub figuresFrom : ℕ → ℕ → ℕ → ℕ → ℕ → ReportFigures
 figuresFrom s x y z night =
     record {
-      photopic = nearest (efficacyOf YBar * y) (s * 10 ^ 16);
-      scotopic = nearest (efficacyOf VPrime * night) (s * 10 ^ 16);
-      xyz = xyzFrom (efficacyOf XBar * x) (efficacyOf YBar * y) (efficacyOf ZBar * z) (s * 10 ^ 16);
+      photopic = nearest (683 * y) (s * divisorOf YBar);
+      scotopic = nearest (683 * night) (s * divisorOf VPrime);
+      xyz = xyzFrom (683 * x) (683 * y) (683 * z) (s * divisorOf YBar);
       xy = xyFrom x y z;
     }
-
--- what the mesopic sum is divided by as it is worked, with a thousand in both parts of the fraction cancelled
-abbrev pub mesopicDivisor : ℕ → ℕ → ℕ
-mesopicDivisor k s = k * (s * 10 ^ 16) + (1000 - k) * (s * 4020000000000000)

@@ -1,6 +1,4 @@
 // X, Y, Z, the coordinates x and y, and the chart's point of a light, all from the same three exact sums.
-use crate::efficacy;
-use crate::scale;
 use crate::sums::colour_sums;
 use answers::ChartAnswer;
 use answers::XyAnswer;
@@ -10,6 +8,8 @@ use answers::from_sums::chart_summed;
 use answers::from_sums::xy_summed;
 use answers::work::xyz_from;
 use curves::weigh::curves_of;
+use efficacy::FACTOR;
+use efficacy::divisor;
 use grid::Check;
 use grid::check_light;
 use grid::is_observer;
@@ -30,7 +30,7 @@ pub fn xyz(observer: u32, start: u32, step: u32, samples: &[u32]) -> XyzAnswer
             // An observer's three curves have one efficacy.
             let curves = curves_of(observer);
             let y = curves.y;
-            XyzAnswer::Value(xyz_from(efficacy(y), sums, scale(step)))
+            XyzAnswer::Value(xyz_from(FACTOR, sums, divisor(y, step)))
         }
         SumsAnswer::Refused(refusal) => XyzAnswer::Refused(refusal),
     }

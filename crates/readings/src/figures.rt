@@ -1,12 +1,12 @@
 // The figures of the report, at observer 2, in one call: the row is laid once, and each sum is made once.
-use crate::efficacy;
-use crate::scale;
 use crate::sums::FigureSums;
 use crate::sums::figure_sums;
 use answers::XyAnswer;
 use answers::Xyz;
 use answers::work::xy_from;
 use answers::work::xyz_from;
+use efficacy::FACTOR;
+use efficacy::divisor;
 use exact::divide::nearest;
 use grid::Check;
 use grid::Refusal;
@@ -56,10 +56,10 @@ fn figures_from(step: u32, sums: FigureSums) -> ReportFigures
 {
     let colour = sums.colour;
     let night = sums.night;
-    let xyz = xyz_from(efficacy(Curve::YBar), colour, scale(step));
+    let xyz = xyz_from(FACTOR, colour, divisor(Curve::YBar, step));
     ReportFigures {
         photopic: xyz.y,
-        scotopic: nearest(efficacy(Curve::VPrime), night, scale(step)),
+        scotopic: nearest(FACTOR, night, divisor(Curve::VPrime, step)),
         xyz,
         xy: xy_from(colour),
     }

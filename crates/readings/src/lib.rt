@@ -7,8 +7,8 @@ use crate::sums::at_setting;
 use crate::sums::mesopic_weighed;
 use crate::sums::weighed;
 use answers::Reading;
-use exact::digits::Short;
-use exact::digits::joined;
+use efficacy::FACTOR;
+use efficacy::divisor;
 use exact::divide::nearest;
 use grid::Check;
 use grid::Refusal;
@@ -17,11 +17,10 @@ use grid::refusals::MESOPIC;
 use spectrum::line::begin_at_360;
 use tables::Curve;
 ghost use mathlib.Core.Path.{_≡_};
-ghost use Prim.Native.Nat.{_*_, _^_, _≤_};
-ghost use Rattle.exact.specs.Value.{short};
+ghost use Prim.Native.Nat.{_≤_};
 ghost use Rattle.grid.specs.declared.Check.the-variants.{Fine};
 ghost use Rattle.grid.specs.Check.{lightCheck};
-ghost use Rattle.readings.specs.Readings.{efficacyOf, illuminanceOf, photopicOf, scotopicOf, photopic10Of, mesopicOf, mesopicMillilux};
+ghost use Rattle.readings.specs.Readings.{illuminanceOf, photopicOf, scotopicOf, photopic10Of, mesopicOf, mesopicMillilux};
 
 // Photopic illuminance in millilux.
 pub fn photopic(start: u32, step: u32, samples: &[u32]) -> Reading
@@ -53,33 +52,10 @@ fn illuminance(curve: Curve, start: u32, step: u32, samples: &[u32]) -> Reading
             let begin = begin_at_360(start, step);
             let j = begin.place;
             let sum = weighed(curve, begin.wavelength, step, &samples[j..]);
-            Reading::Value(nearest(efficacy(curve), sum, scale(step)))
+            Reading::Value(nearest(FACTOR, sum, divisor(curve, step)))
         }
         Check::Refused(refusal) => Reading::Refused(refusal),
     }
-}
-
-// The efficacy of a curve.
-fn efficacy(curve: Curve) -> u32
-    ensures { λ r. ⌜ r ≡ efficacyOf curve ⌝ }
-{
-    match curve {
-        Curve::XBar => 683,
-        Curve::YBar => 683,
-        Curve::ZBar => 683,
-        Curve::XBar10 => 684,
-        Curve::YBar10 => 684,
-        Curve::ZBar10 => 684,
-        Curve::VPrime => 1700,
-    }
-}
-
-// s · 10^16.
-fn scale(step: u32) -> Short
-    requires { ⌜ step ≤ 10 ⌝ }
-    ensures { λ r. ⌜ short r ≡ step * 10 ^ 16 ⌝ }
-{
-    joined(0, step as u64 * 10000000000000000)
 }
 
 // The illuminance between day and night vision, at k thousandths, in millilux.
@@ -106,6 +82,7 @@ fn mesopic_of_light(k: u32, start: u32, step: u32, samples: &[u32]) -> u32
     let begin = begin_at_360(start, step);
     let j = begin.place;
     let sum = mesopic_weighed(k, begin.wavelength, step, &samples[j..]);
-    let night = joined(0, step as u64 * 4020000000000000);
-    nearest(683, sum, at_setting(k, scale(step), night))
+    let day = divisor(Curve::YBar, step);
+    let night = divisor(Curve::VPrime, step);
+    nearest(FACTOR, sum, at_setting(k, day, night))
 }

@@ -35,7 +35,8 @@ pub fn mesopic_weighed(k: u32, first: u32, step: u32, part: &[u32]) -> Short
     at_setting(k, weigh(Curve::YBar, &row), weigh(Curve::VPrime, &row))
 }
 
-// k · day + (1000 - k) · night. No sum is above 10 · 1,000,000 times a table's, which is at most 2 · 10^15, and no divisor.
+// k · day + (1000 - k) · night. No sum is above 10 · 1,000,000 times a table's, which is at most 2 · 10^15, and no
+// divisor is either.
 pub fn at_setting(k: u32, day: Short, night: Short) -> Short
     requires { ⌜ (k ≤ 1000) × (short day ≤ 20000000000000000000000) × (short night ≤ 20000000000000000000000) ⌝ }
     ensures { λ r. ⌜ short r ≡ k * short day + (1000 - k) * short night ⌝ }

@@ -39,10 +39,10 @@ pub record Dark : Type 0 where
 abbrev pub exampleText : List ℕ
 exampleText =
     ascii "photopic 40980\n"
-    ++ ascii "scotopic 963900\n"
-    ++ ascii "X 198616\n"
+    ++ ascii "scotopic 963972\n"
+    ++ ascii "X 198617\n"
     ++ ascii "Y 40980\n"
-    ++ ascii "Z 1140064\n"
+    ++ ascii "Z 1140066\n"
     ++ ascii "x 0.14396\n"
     ++ ascii "y 0.02970\n"
 

@@ -2,7 +2,7 @@
 
 use super::grid::Grid;
 use super::random::Random;
-use crate::tables::{self, Table, FIRST};
+use crate::tables::{self, at_reference, Table, FIRST};
 
 /// A reading at step 1: what a unit of each sample adds to the numerator, and the denominator.
 pub struct Fraction {
@@ -13,28 +13,27 @@ pub struct Fraction {
 /// One of a light's readings, with this observer or this k.
 pub fn of_light(random: &mut Random, grid: &Grid, observer: u32, k: u32) -> Fraction {
     let k = u128::from(k);
-    let one = 10_u128.pow(16);
-    let (efficacy, functions) = match observer {
-        2 => (683, [&tables::X, &tables::Y, &tables::Z]),
-        _ => (684, [&tables::X10, &tables::Y10, &tables::Z10]),
+    let functions = match observer {
+        2 => [&tables::X, &tables::Y, &tables::Z],
+        _ => [&tables::X10, &tables::Y10, &tables::Z10],
     };
     let (y, scotopic) = (&tables::Y, &tables::V_PRIME);
     match random.below(5) {
         0 => Fraction {
-            adds: each(grid, |row| 1700 * at(scotopic, row)),
-            denominator: one,
+            adds: each(grid, |row| 683 * at(scotopic, row)),
+            denominator: at_reference(scotopic),
         },
         1 => Fraction {
             adds: each(grid, |row| {
-                683_000 * (k * at(y, row) + (1000 - k) * at(scotopic, row))
+                683 * (k * at(y, row) + (1000 - k) * at(scotopic, row))
             }),
-            denominator: one * (1000 * k + 402 * (1000 - k)),
+            denominator: k * at_reference(y) + (1000 - k) * at_reference(scotopic),
         },
         _ => {
             let function = random.pick(&functions);
             Fraction {
-                adds: each(grid, |row| efficacy * at(function, row)),
-                denominator: one,
+                adds: each(grid, |row| 683 * at(function, row)),
+                denominator: at_reference(functions[1]),
             }
         }
     }

@@ -1,24 +1,21 @@
 //! The readings of a light.
 
 use super::flat::{chart_answer, reading, xy_answer, xyz_answer};
-use super::line::{coordinates, coordinates_or_dark, line, nearest, observer, weigh};
+use super::line::{coordinates, coordinates_or_dark, functions, line, nearest, weigh};
 use super::refusal::{check_grid, check_samples, Refusal, MESOPIC};
 use crate::answers::{ChartAnswer, FiguresAnswer, Reading, XyAnswer, XyzAnswer};
-use crate::tables::{Table, V_PRIME, Y, Y10};
-
-/// Weights at 10^13 to one times samples in millionths, over the thousandths of the reading.
-const SCALE: u128 = 10_000_000_000_000_000;
+use crate::tables::{at_reference, Table, V_PRIME, Y, Y10};
 
 pub fn photopic(start: u32, step: u32, samples: &[u32]) -> Reading {
-    reading(illuminance(683, &Y, start, step, samples))
+    reading(illuminance(&Y, start, step, samples))
 }
 
 pub fn scotopic(start: u32, step: u32, samples: &[u32]) -> Reading {
-    reading(illuminance(1700, &V_PRIME, start, step, samples))
+    reading(illuminance(&V_PRIME, start, step, samples))
 }
 
 pub fn photopic_10(start: u32, step: u32, samples: &[u32]) -> Reading {
-    reading(illuminance(684, &Y10, start, step, samples))
+    reading(illuminance(&Y10, start, step, samples))
 }
 
 pub fn mesopic(k: u32, start: u32, step: u32, samples: &[u32]) -> Reading {
@@ -47,12 +44,11 @@ pub fn figures(start: u32, step: u32, samples: &[u32]) -> FiguresAnswer {
 }
 
 fn seven(start: u32, step: u32, samples: &[u32]) -> Result<FiguresAnswer, Refusal> {
-    let observer = observer(2)?;
+    let functions = functions(2)?;
     let line = checked_line(start, step, samples)?;
-    let sums = observer.functions.map(|weights| weigh(weights, &line));
-    let millilux = |sum: u128| nearest(observer.efficacy * sum, u128::from(step) * SCALE);
-    let [x, y, z] = sums.map(millilux);
-    let scotopic = nearest(1700 * weigh(&V_PRIME, &line), u128::from(step) * SCALE);
+    let sums = functions.map(|weights| weigh(weights, &line));
+    let [x, y, z] = sums.map(|sum| millilux(sum, functions[1], step));
+    let scotopic = millilux(weigh(&V_PRIME, &line), &V_PRIME, step);
     let (xy_number, [chart_x, chart_y]) = coordinates_or_dark(sums);
     Ok(FiguresAnswer {
         number: 0,
@@ -75,16 +71,16 @@ fn checked_line(start: u32, step: u32, samples: &[u32]) -> Result<Table, Refusal
     Ok(line(start, step, samples))
 }
 
-fn illuminance(
-    efficacy: u128,
-    weights: &Table,
-    start: u32,
-    step: u32,
-    samples: &[u32],
-) -> Result<u32, Refusal> {
+/// A sum with the efficacy of V, V10 or V', which is 683 over the value at 555.017 nm, since that at
+/// the peak is 1. Weights at 10^13 to one times samples in millionths, over the thousandths of the
+/// reading, are at 10^16 to one as that value is.
+fn millilux(sum: u128, curve: &Table, step: u32) -> u32 {
+    nearest(683 * sum, u128::from(step) * at_reference(curve))
+}
+
+fn illuminance(curve: &Table, start: u32, step: u32, samples: &[u32]) -> Result<u32, Refusal> {
     let line = checked_line(start, step, samples)?;
-    let sum = weigh(weights, &line);
-    Ok(nearest(efficacy * sum, u128::from(step) * SCALE))
+    Ok(millilux(weigh(curve, &line), curve, step))
 }
 
 fn mixed(k: u32, start: u32, step: u32, samples: &[u32]) -> Result<u32, Refusal> {
@@ -94,25 +90,23 @@ fn mixed(k: u32, start: u32, step: u32, samples: &[u32]) -> Result<u32, Refusal>
     let line = checked_line(start, step, samples)?;
     let k = u128::from(k);
     let mixture = k * weigh(&Y, &line) + (1000 - k) * weigh(&V_PRIME, &line);
-    Ok(nearest(
-        683_000 * mixture,
-        u128::from(step) * SCALE * (1000 * k + 402 * (1000 - k)),
-    ))
+    let bracket = k * at_reference(&Y) + (1000 - k) * at_reference(&V_PRIME);
+    Ok(nearest(683 * mixture, u128::from(step) * bracket))
 }
 
-fn tristimulus(asked: u32, start: u32, step: u32, samples: &[u32]) -> Result<[u32; 3], Refusal> {
-    let observer = observer(asked)?;
+fn tristimulus(observer: u32, start: u32, step: u32, samples: &[u32]) -> Result<[u32; 3], Refusal> {
+    let functions = functions(observer)?;
     let line = checked_line(start, step, samples)?;
-    Ok(observer.functions.map(|weights| {
-        nearest(
-            observer.efficacy * weigh(weights, &line),
-            u128::from(step) * SCALE,
-        )
-    }))
+    Ok(functions.map(|weights| millilux(weigh(weights, &line), functions[1], step)))
 }
 
-fn chromaticity(asked: u32, start: u32, step: u32, samples: &[u32]) -> Result<[u32; 2], Refusal> {
-    let observer = observer(asked)?;
+fn chromaticity(
+    observer: u32,
+    start: u32,
+    step: u32,
+    samples: &[u32],
+) -> Result<[u32; 2], Refusal> {
+    let functions = functions(observer)?;
     let line = checked_line(start, step, samples)?;
-    coordinates(observer.functions.map(|weights| weigh(weights, &line)))
+    coordinates(functions.map(|weights| weigh(weights, &line)))
 }

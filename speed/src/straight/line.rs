@@ -3,23 +3,11 @@
 use super::refusal::{Refusal, DARK, OBSERVER};
 use crate::tables::{self, Table, FIRST};
 
-/// An observer's efficacy and its three functions.
-pub struct Observer {
-    pub efficacy: u128,
-    pub functions: [&'static Table; 3],
-}
-
-/// The observer asked for, or 6.
-pub fn observer(asked: u32) -> Result<Observer, Refusal> {
-    match asked {
-        2 => Ok(Observer {
-            efficacy: 683,
-            functions: [&tables::X, &tables::Y, &tables::Z],
-        }),
-        10 => Ok(Observer {
-            efficacy: 684,
-            functions: [&tables::X10, &tables::Y10, &tables::Z10],
-        }),
+/// The three functions of the observer asked for, or 6.
+pub fn functions(observer: u32) -> Result<[&'static Table; 3], Refusal> {
+    match observer {
+        2 => Ok([&tables::X, &tables::Y, &tables::Z]),
+        10 => Ok([&tables::X10, &tables::Y10, &tables::Z10]),
         _ => Err(OBSERVER),
     }
 }

@@ -1,7 +1,7 @@
 //! The readings of a panel.
 
 use super::flat::{chart_answer, xy_answer, xyz_answer};
-use super::line::{coordinates, coordinates_or_dark, line, nearest, observer, weigh};
+use super::line::{coordinates, coordinates_or_dark, functions, line, nearest, weigh};
 use super::refusal::{check_each, check_grid, Refusal, ILLUMINANT, REFLECTANCE};
 use crate::answers::{ChartAnswer, PanelFiguresAnswer, XyAnswer, XyzAnswer};
 use crate::tables::{Table, A, D65};
@@ -92,12 +92,12 @@ fn tristimulus(
 
 /// X, Y and Z from the panel's sums, over the white's.
 fn thousandths(
-    asked_observer: u32,
+    observer: u32,
     asked_illuminant: u32,
     step: u32,
     sums: [u128; 3],
 ) -> Result<[u32; 3], Refusal> {
-    let [_, y_weights, _] = observer(asked_observer)?.functions;
+    let [_, y_weights, _] = functions(observer)?;
     // The white runs over 360 to 830 whatever the panel's own range.
     let white = weigh(y_weights, illuminant(asked_illuminant)?);
     Ok(sums.map(|sum| nearest(10 * sum, u128::from(step) * white)))
@@ -105,13 +105,13 @@ fn thousandths(
 
 /// The panel's exact X, Y and Z sums, or the first of 6, 7, 1, 2, 3, 8.
 fn sums(
-    asked_observer: u32,
+    observer: u32,
     asked_illuminant: u32,
     start: u32,
     step: u32,
     reflectances: &[u16],
 ) -> Result<[u128; 3], Refusal> {
-    let observer = observer(asked_observer)?;
+    let functions = functions(observer)?;
     let illuminant = illuminant(asked_illuminant)?;
     check_grid(start, step, reflectances.len())?;
     check_each(reflectances, LARGEST_REFLECTANCE, REFLECTANCE)?;
@@ -119,7 +119,7 @@ fn sums(
     for (t, light) in lit.iter_mut().zip(illuminant) {
         *t *= light;
     }
-    Ok(observer.functions.map(|weights| weigh(weights, &lit)))
+    Ok(functions.map(|weights| weigh(weights, &lit)))
 }
 
 /// The illuminant asked for, or 7.

@@ -3,6 +3,7 @@ use mathlib.Core.Path.{_≡_, _∙_, sym}
 use native.Mathlib.Omega.{arith}
 use Rattle.exact.specs.Value.{short}
 use Rattle.readings.specs.Readings.{weighed, illuminanceOf}
+use Rattle.readings.proofs.Worked.{illuminance-is}
 use Rattle.readings.proofs.Small.{millilux-fits}
 use Rattle.readings.proofs.Part.{AcceptedLight, sought, step-small, BegunLight, in-row, part-begun, weighed-begun}
 use borrow.Author.Needs.{needs}
@@ -34,8 +35,8 @@ part-weighed-start c = in-row (part c)
 weighed-requires : tie.Need-weighed-requires
 weighed-requires c κs = part-begun (part (c .before))
 
-scale-requires : tie.Need-scale-requires
-scale-requires c κs = step-small (light (c .before .before .before .before))
+divisor-requires : tie.Need-divisor-requires
+divisor-requires c κs = step-small (light (c .before .before .before))
 
 -- the sum over the part is the light's
 sum-is :
@@ -44,17 +45,22 @@ sum-is c = c .weighed .ensures ∙ weighed-begun (part (c .before .before)) _
 
 nearest-requires : tie.Need-nearest-requires
 nearest-requires c κs =
-    let sum = c .before .before in
+    let sum = c .before in
     let is = part (sum .before .before) in
     let t = begin (sum .before .before .before) .args in
-    rw (c .before .efficacy .ensures, sum-is sum, c .scale .ensures) (millilux-fits (t .start) (t .step) (t .samples .now) (is .light .fine) (t .curve))
+    rw (sum-is sum, c .divisor .ensures) (millilux-fits (t .start) (t .step) (t .samples .now) (is .light .fine) (t .curve))
 
 returns : tie.Need-returns
-unfolding illuminanceOf
 returns c =
-    let scaled = c .before in
-    let sum = scaled .before .before in
-    rw (c .nearest .ensures, scaled .before .efficacy .ensures, sum-is sum, scaled .scale .ensures, part (sum .before .before) .light .fine)
+    let sum = c .before .before in
+    let t = begin (sum .before .before .before) .args in
+    rw (
+      c .nearest .ensures,
+      sum-is sum,
+      c .before .divisor .ensures,
+      illuminance-is (t .start) (t .step) (t .samples .now) (t .curve),
+      part (sum .before .before) .light .fine,
+    )
 
 returns-2 : tie.Need-returns-2
 unfolding illuminanceOf
@@ -72,8 +78,7 @@ illuminance-spec =
     part-weighed-start
     (λ c. search needs)
     weighed-requires
-    (λ c κs. search needs)
-    scale-requires
+    divisor-requires
     nearest-requires
     (λ c. search needs)
     returns

@@ -1,6 +1,5 @@
 -- The sum over the part is the light's, and the divisor is mixed of two as the sum is.
 use mathlib.Core.Path.{_≡_, _∙_, sym}
-use native.Mathlib.Nat.{zero-add}
 use native.Mathlib.Omega.{arith}
 use Rattle.exact.specs.Value.{short}
 use Rattle.tables.specs.declared.Curve.the-variants.{YBar, VPrime}
@@ -32,7 +31,7 @@ sum-is c =
 divisor-is :
     (c : tie.After-at-setting) →
     let t = begin (c .before .before .before) .args in short (c .at-setting .result) ≡ mesopicDivisor (t .k) (t .step)
-divisor-is c = c .at-setting .ensures ∙ rw (c .before .scale .ensures, c .before .before .joined .ensures, zero-add)
+divisor-is c = c .at-setting .ensures ∙ rw (c .before .before .divisor .ensures, c .before .divisor2 .ensures)
 
 begin-at-360-requires : tie.Need-begin-at-360-requires
 begin-at-360-requires c κs = sought (light (c .before))
@@ -49,17 +48,17 @@ part-mesopic-weighed-start c = in-row (part c)
 mesopic-weighed-requires : tie.Need-mesopic-weighed-requires
 mesopic-weighed-requires c κs = (c .before .before .before .pre .0, part-begun (part (c .before)))
 
-mul-joined : tie.Need-mul-joined
-mul-joined c = omega (arith, step-small (light (begin c)))
+divisor-requires : tie.Need-divisor-requires
+divisor-requires c κs = step-small (light (begin c))
 
-scale-requires : tie.Need-scale-requires
-scale-requires c κs = step-small (light (begin (c .before)))
+divisor-requires-2 : tie.Need-divisor-requires-2
+divisor-requires-2 c κs = step-small (light (begin (c .before)))
 
 at-setting-requires : tie.Need-at-setting-requires
 at-setting-requires c κs =
     let s = begin (c .before .before) in
     let high = step-small (light s) in
-    (s .pre .0, omega (arith, c .scale .ensures), omega (arith, c .before .joined .ensures))
+    (s .pre .0, omega (arith, c .before .divisor .ensures), omega (arith, c .divisor2 .ensures))
 
 nearest-requires : tie.Need-nearest-requires
 nearest-requires c κs =
@@ -83,9 +82,8 @@ mesopic-of-light-spec =
     part-mesopic-weighed-start
     (λ c. search needs)
     mesopic-weighed-requires
-    mul-joined
-    (λ c κs. search needs)
-    scale-requires
+    divisor-requires
+    divisor-requires-2
     at-setting-requires
     nearest-requires
     returns)

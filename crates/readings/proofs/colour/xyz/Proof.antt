@@ -1,11 +1,14 @@
--- Each of X, Y, Z is its sum times the efficacy, divided once.
+-- Each of X, Y, Z is 683 times its sum, divided once.
 use mathlib.Core.Path.{_≡_, _∙_}
+use Prim.Native.Nat.{_*_}
 use Rattle.grid.specs.declared.Check.the-variants.{Fine}
+use Rattle.exact.specs.Value.{short}
+use Rattle.efficacy.specs.Divisors.{divisorOf}
 use Rattle.curves.specs.Observer.{curvesOf}
 use Rattle.answers.proofs.FromSums.{given-sums, refused-sums}
-use Rattle.readings.specs.Readings.{efficacyOf, xyzOf, colourCheck}
+use Rattle.readings.specs.Readings.{xyzOf, colourCheck}
 use Rattle.readings.specs.Sums.{LightSums}
-use Rattle.readings.proofs.Small.{one-efficacy}
+use Rattle.readings.proofs.Worked.{xyz-is}
 use Rattle.readings.proofs.Part.{AcceptedLight, light-of, step-small, xyz-fit}
 use borrow.Author.Needs.{needs}
 use Rattle.readings.proofs.colour.xyz.Statement.{statement}
@@ -24,26 +27,31 @@ given c = let p = summed c in given-sums _ _ _ (p .light-sums .result) (p .light
 light : (c : tie.After-known-told) → let t = summed c .before .before .args in AcceptedLight (t .start) (t .step) (t .samples .now)
 light c = let t = summed c .before .before .args in light-of (t .observer) (t .start) (t .step) (t .samples .now) (given c .0)
 
-efficacy-is : (c : tie.After-efficacy) → let t = summed (c .before .before) .before .before .args in c .efficacy .result ≡ efficacyOf (curvesOf (t .observer) .y)
-efficacy-is c = c .efficacy .ensures ∙ rw (c .before .curves-of .ensures)
+divisor-is :
+    (c : tie.After-divisor) →
+    let t = summed (c .before .before) .before .before .args in short (c .divisor .result) ≡ t .step * divisorOf (curvesOf (t .observer) .y)
+divisor-is c = c .divisor .ensures ∙ rw (c .before .curves-of .ensures)
 
-scale-requires : tie.Need-scale-requires
-scale-requires c κs = step-small (light (c .before .before))
+divisor-requires : tie.Need-divisor-requires
+divisor-requires c κs = step-small (light (c .before))
 
 xyz-from-requires : tie.Need-xyz-from-requires
-xyz-from-requires c κs =
-    let told = c .before .before .before in
-    let one = one-efficacy (summed told .before .before .args .observer) in
-    rw (efficacy-is (c .before), c .scale .ensures) (rw (one .0, one .1) at (xyz-fit (light told) (given told .1)))
+xyz-from-requires c κs = let told = c .before .before in rw (divisor-is c) (xyz-fit (light told) (given told .1))
 
 returns : tie.Need-returns
-unfolding xyzOf
 returns c =
-    let worked = c .before .before in
-    let told = worked .before .before in
+    let told = c .before .before .before in
     let is = given told in
-    let one = one-efficacy (summed told .before .before .args .observer) in
-    rw (c .xyz-from .ensures, is .1 .x, is .1 .y, is .1 .z, efficacy-is worked, c .before .scale .ensures, is .0, one .0, one .1)
+    let t = summed told .before .before .args in
+    rw (
+      c .xyz-from .ensures,
+      is .1 .x,
+      is .1 .y,
+      is .1 .z,
+      divisor-is (c .before),
+      xyz-is (t .start) (t .step) (t .samples .now) (t .observer),
+      is .0,
+    )
 
 returns-2 : tie.Need-returns-2
 unfolding xyzOf
@@ -58,8 +66,7 @@ xyz-spec =
     (λ c κs. search needs)
     (λ c. search needs)
     (λ c κs. search needs)
-    (λ c κs. search needs)
-    scale-requires
+    divisor-requires
     xyz-from-requires
     (λ c. search needs)
     returns

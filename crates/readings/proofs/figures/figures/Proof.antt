@@ -1,8 +1,10 @@
 -- The four sums over the part are an accepted light's.
 use mathlib.Core.Path.{_∙_, sym}
 use native.Mathlib.Omega.{arith}
-use Rattle.tables.specs.declared.Curve.the-variants.{VPrime}
-use Rattle.readings.specs.Readings.{figuresOf}
+use Rattle.tables.specs.declared.Curve.the-variants.{YBar, VPrime}
+use Rattle.efficacy.proofs.Worked.{millilux-worked}
+use Rattle.readings.specs.Readings.{weighed, figuresOf}
+use Rattle.readings.proofs.Worked.{xyz-worked}
 use Rattle.readings.proofs.Small.{millilux-fits}
 use Rattle.readings.proofs.Part.{AcceptedLight, sought, step-small, total-small, xyz-fit, BegunLight, in-row, part-begun, weighed-begun, colour-begun}
 use borrow.Author.Needs.{needs}
@@ -55,7 +57,18 @@ returns c =
     let is = part (sums .before .before) in
     let colour = colour-begun is (sums .figure-sums .ensures .colour) in
     let night = sums .figure-sums .ensures .night ∙ weighed-begun is VPrime in
-    rw (c .figures-from .ensures, colour .x, colour .y, colour .z, night, is .light .fine)
+    let t = begin (sums .before .before .before) .args in
+    rw (
+      c .figures-from .ensures,
+      colour .x,
+      colour .y,
+      colour .z,
+      night,
+      is .light .fine,
+      xyz-worked 2 (t .start) (t .step) (t .samples .now),
+      millilux-worked YBar (t .step) (weighed YBar (t .start) (t .step) (t .samples .now)),
+      millilux-worked VPrime (t .step) (weighed VPrime (t .start) (t .step) (t .samples .now)),
+    )
 
 returns-2 : tie.Need-returns-2
 unfolding figuresOf

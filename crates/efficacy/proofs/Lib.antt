@@ -1,0 +1,2 @@
+-- Laws of the efficacies.
+pub mod Worked

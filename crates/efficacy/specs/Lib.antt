@@ -1,0 +1,3 @@
+-- Definitions of the crate `efficacy`.
+pub mod Efficacy
+pub mod Divisors
