@@ -9,25 +9,42 @@ use crate::tables::{self, FIRST};
 /// How often an unlucky choice is tried again.
 const TRIES: usize = 1000;
 
-/// A light of one sample, as 25,000 at 460, if there is one.
-///
-/// The reading of a sample v is v·N/D. With q = D / gcd(N, D) it is a half at v = q/2, if q is even.
+/// The largest divisor to walk over: a walk then has 100,000 steps or so.
+const FAR: u128 = 100_000 * LARGEST_SAMPLE as u128;
+
+/// A light of two samples, as 136,491 at 555 and 184,750 at 382, if one is found.
 pub fn reading(random: &mut Random, fraction: &Fraction) -> Option<Vec<u32>> {
-    let half = |add: u128| {
-        let q = fraction.denominator / gcd(add, fraction.denominator);
-        small(q / 2).filter(|_| q % 2 == 0)
-    };
-    let halves = fraction.adds.iter().enumerate();
-    let halves: Vec<(usize, u32)> = halves
-        .filter_map(|(place, &add)| Some((place, half(add)?)))
-        .collect();
-    if halves.is_empty() {
+    let samples = (0..TRIES).find_map(|_| half(random, fraction))?;
+    Some(nudged(random, samples))
+}
+
+/// With samples v and u at two places the reading is (v·m + u·n)/d, once what the three have in
+/// common is taken out. It is a half where v·m + u·n is d/2 more than a multiple of d. To each u
+/// belongs one such v below d, and the walk over u ends where v is small enough for a sample.
+fn half(random: &mut Random, fraction: &Fraction) -> Option<Vec<u32>> {
+    let Fraction { adds, denominator } = fraction;
+    let (first, second) = (random.below(adds.len()), random.below(adds.len()));
+    if first == second || adds[second] == 0 {
         return None;
     }
-    let (place, sample) = random.pick(&halves);
-    let mut samples = vec![0; fraction.adds.len()];
-    samples[place] = sample;
-    Some(nudged(random, samples))
+    let common = gcd(gcd(adds[first], adds[second]), *denominator);
+    let [m, n, d] = [adds[first], adds[second], *denominator].map(|each| each / common);
+    if d % 2 == 1 || d > FAR {
+        return None;
+    }
+    let inverse = inverse(m, d)?;
+    let turn = d - n % d * inverse % d;
+    let from = random.within(0..=LARGEST_SAMPLE);
+    let mut v = (d / 2 * inverse + u128::from(from) * turn) % d;
+    for u in from..=LARGEST_SAMPLE {
+        if let Some(v) = small(v) {
+            let mut samples = vec![0; adds.len()];
+            (samples[first], samples[second]) = (v, u);
+            return Some(samples);
+        }
+        v = (v + turn) % d;
+    }
+    None
 }
 
 /// A light of two samples whose x or y is an odd number of sixty-fourths, so 1562.5 times it.
@@ -85,5 +102,43 @@ fn gcd(a: u128, b: u128) -> u128 {
         a
     } else {
         gcd(b, a % b)
+    }
+}
+
+/// What a is multiplied by to leave 1 over a multiple of d, if they have nothing in common.
+fn inverse(a: u128, d: u128) -> Option<u128> {
+    let (mut left, mut right) = ((d, 0), (a % d, 1));
+    while right.0 > 0 {
+        let quotient = left.0 / right.0;
+        let factor = (left.1 + (d - quotient % d) * right.1) % d;
+        (left, right) = (right, (left.0 % right.0, factor));
+    }
+    (left.0 == 1).then_some(left.1)
+}
+
+#[cfg(test)]
+mod tests {
+    use super::*;
+    use crate::generate::fraction;
+
+    #[test]
+    fn the_halves_of_readings_are_exact() {
+        let mut random = Random::new(1);
+        let mut found = 0;
+        for _ in 0..200 {
+            let grid = Grid::of_step(&mut random, 1);
+            let observer = random.pick(&[2, 10]);
+            let fraction = fraction::of_light(&mut random, &grid, observer, 500);
+            let Some(samples) = (0..TRIES).find_map(|_| half(&mut random, &fraction)) else {
+                continue;
+            };
+            let products = fraction.adds.iter().zip(&samples);
+            let sum: u128 = products
+                .map(|(add, &sample)| add * u128::from(sample))
+                .sum();
+            assert_eq!(2 * sum % (2 * fraction.denominator), fraction.denominator);
+            found += 1;
+        }
+        assert!(found > 150, "only {found} of 200");
     }
 }
