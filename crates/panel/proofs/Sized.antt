@@ -42,14 +42,14 @@ module _ (o i : ℕ) where
   pub divisor-small : (s : ℕ) → s ≤ 10 → whiteSum o i * s + 0 < 2 ^ 96
   unfolding whiteSum
   divisor-small s h =
-      let x : whiteSum o i * s ≤ 52320400000000000000000 * 10 = mul-le-mul (lit-total (illuminantOf i) (curvesOf o .y)) h in
+      let x : whiteSum o i * s ≤ 13000000000000000000000 * 10 = mul-le-mul (lit-total (illuminantOf i) (curvesOf o .y)) h in
       omega arith
 
 module _ (o i a s : ℕ) (rs : List ℕ) (fine : panelCheck o i a s rs ≡ Fine) where
   panel-bound : (v : ℕ → ℕ) → W v a s rs ≤ s * 10000 * total 471 v
   panel-bound v = W-bound v a s 10000 rs (on-grid o i a s rs fine .step-low) (within o i a s rs fine)
 
-  sum-small : (c : Curve) → W (litBy (illuminantOf i) c) a s rs ≤ 5232040000000000000000000000
+  sum-small : (c : Curve) → W (litBy (illuminantOf i) c) a s rs ≤ 1300000000000000000000000000
   sum-small c =
       le-trans (panel-bound (litBy (illuminantOf i) c))
       (mul-le-mul (mul-le-mul-right 10000 (on-grid o i a s rs fine .step-high)) (lit-total (illuminantOf i) c))
@@ -64,14 +64,14 @@ module _ (o i a s : ℕ) (rs : List ℕ) (fine : panelCheck o i a s rs ≡ Fine)
   pub divisor-some : 0 < s * whiteSum o i
   divisor-some = mul-pos (on-grid o i a s rs fine .step-low) (white-lit o i)
 
-  -- no curve's sum under an illuminant is five times the white sum
+  -- no curve's sum under an illuminant is 1.3 times the white sum
   panel-fits : (c : Curve) → Fits (10 * W (litBy (illuminantOf i) c) a s rs) (s * whiteSum o i)
   panel-fits c =
       let v = litBy (illuminantOf i) c in
       let x : W v a s rs ≤ s * 10000 * total 471 v = panel-bound v in
-      let y : s * 10000 * total 471 v ≤ s * 10000 * 52320400000000000000000 = mul-le-mul-left (s * 10000) (lit-total (illuminantOf i) c) in
+      let y : s * 10000 * total 471 v ≤ s * 10000 * 13000000000000000000000 = mul-le-mul-left (s * 10000) (lit-total (illuminantOf i) c) in
       let z : s * 10500000000000000000000 ≤ s * whiteSum o i = mul-le-mul-left s (white-some o i) in
-      let n = nearest-bound 500000 (10 * W v a s rs) (s * whiteSum o i) (omega arith) in
+      let n = nearest-bound 130000 (10 * W v a s rs) (s * whiteSum o i) (omega arith) in
       record { divisor = divisor-some; most = omega arith }
 
   pub xyz-fit : XyzFit (10 * panelXSum o i a s rs) (10 * panelYSum o i a s rs) (10 * panelZSum o i a s rs) (s * whiteSum o i)

@@ -1,7 +1,7 @@
 -- Laws of the tables.
 pub mod Largest
 pub mod Columns
+pub mod Lit
 pub mod Sums
 pub mod UnitAt
 pub mod Held
-pub mod Lit
