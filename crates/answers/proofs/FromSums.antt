@@ -8,11 +8,8 @@ use Rattle.grid.specs.Check.{unless}
 use Rattle.tables.specs.declared.Curve.{Curve}
 use Rattle.curves.specs.declared.weigh.Sums.{Sums}
 use Rattle.curves.specs.Observer.{curvesOf, SumsBy}
-use Rattle.answers.specs.declared.XyAnswer.{XyAnswer}
-use Rattle.answers.specs.declared.ChartAnswer.{ChartAnswer}
 use Rattle.answers.specs.declared.from_sums.SumsAnswer.{SumsAnswer}
-use Rattle.answers.specs.Worked.{xyFrom, onChart}
-use Rattle.answers.specs.FromSums.{Summed, xySummed, chartSummed}
+use Rattle.answers.specs.FromSums.{Summed, fromSums}
 
 module _ (check : Check) (o : ℕ) (by : Curve → ℕ) where
   pub given-sums : (answer : SumsAnswer) → Summed check o by answer → (sums : Sums) → answer ≡ SumsAnswer.Given sums → (check ≡ Fine) × SumsBy o by sums
@@ -23,17 +20,9 @@ module _ (check : Check) (o : ℕ) (by : Curve → ℕ) where
   unfolding Summed
   refused-sums answer is r e = rw e at is
 
-  pub xy-summed :
-      (answer : SumsAnswer) → Summed check o by answer →
-      xySummed answer ≡ unless check XyAnswer.Refused (xyFrom (by (curvesOf o .x)) (by (curvesOf o .y)) (by (curvesOf o .z)))
-  unfolding Summed xySummed
-  xy-summed (SumsAnswer.Given sums) (fine, is) = rw (fine, is .x, is .y, is .z)
-  xy-summed (SumsAnswer.Refused r) is = rw is
-
-  pub chart-summed :
-      (answer : SumsAnswer) → Summed check o by answer →
-      chartSummed answer
-      ≡ unless check ChartAnswer.Refused (ChartAnswer.Given (onChart (xyFrom (by (curvesOf o .x)) (by (curvesOf o .y)) (by (curvesOf o .z)))))
-  unfolding Summed chartSummed
-  chart-summed (SumsAnswer.Given sums) (fine, is) = rw (fine, is .x, is .y, is .z)
-  chart-summed (SumsAnswer.Refused r) is = rw is
+  pub from-sums :
+      {A : Type 0} (refused : Refusal → A) (work : ℕ → ℕ → ℕ → A) (answer : SumsAnswer) → Summed check o by answer →
+      fromSums refused work answer ≡ unless check refused (work (by (curvesOf o .x)) (by (curvesOf o .y)) (by (curvesOf o .z)))
+  unfolding Summed fromSums
+  from-sums refused work (SumsAnswer.Given sums) (fine, is) = rw (fine, is .x, is .y, is .z)
+  from-sums refused work (SumsAnswer.Refused r) is = rw is

@@ -2,20 +2,17 @@
 use mathlib.Core.Path.{_≡_, refl}
 use mathlib.Core.List.{List, [], _∷_}
 use Prim.Native.Nat.{ℕ, zero, suc, _+_, _*_, _≤_, _<_, zero-le}
-use native.Mathlib.Nat.{zero-add, add-zero}
 use native.Mathlib.Omega.{arith}
 use lib.ListN.{length, getD}
 use Rattle.mixing.specs.Nearest.{nearest}
 use Rattle.mixing.specs.Mixture.{mix, Below, Linear}
 use Rattle.mixing.specs.Promises.{Differ, Between}
-use Rattle.mixing.proofs.Mixture.{linear-plus, linear-times}
+use Rattle.mixing.proofs.Mixture.{linear-times}
 use Rattle.mixing.proofs.Illuminance.{illuminance}
 use Rattle.mixing.proofs.Coordinate.{between}
-use Rattle.answers.specs.Worked.{xyFrom}
 use Rattle.grid.specs.Refusals.{DARK}
 use Rattle.grid.specs.Said.{Said, value}
-use Rattle.answers.specs.Said.{saidXy}
-use Rattle.answers.proofs.Values.{xy-lit, xy-dark, xy-given}
+use Rattle.answers.proofs.Values.{eachOver, saidOver, over-lit, over-given, over-dark}
 
 -- each of these sums is linear
 abbrev pub AllLinear : ℕ → List (List ℕ → ℕ) → Type 0
@@ -41,50 +38,62 @@ module _ (n d : ℕ) (pos : 0 < d) (xs ys : List ℕ) (p : length xs ≡ n) (q :
   each-order (F ∷ Fs) l b zero = illuminance n d F (l .0) pos .order xs ys p q b
   each-order (F ∷ Fs) l b (suc i) = each-order Fs (l .1) b i
 
-module _
-    (n : ℕ) (F G H : List ℕ → ℕ) (f : Linear n F) (g : Linear n G) (h : Linear n H) (xs ys : List ℕ) (p : length xs ≡ n)
-    (q : length ys ≡ n)
-  where
-    abbrev xy : List ℕ → Said
-    xy zs = saidXy (xyFrom (F zs) (G zs) (H zs))
+-- numerators that are linear, and 0 where the divisor is
+abbrev pub AllOver : ℕ → (List ℕ → ℕ) → List (List ℕ → ℕ) → Type 0
+AllOver n D [] = Unit {0}
+AllOver n D (N ∷ Ns) = (Linear n N × ((xs : List ℕ) → D xs ≡ 0 → N xs ≡ 0)) × AllOver n D Ns
 
-    abbrev divisor : List ℕ → ℕ
-    divisor zs = F zs + G zs + H zs
+-- what they are of a row
+abbrev pub numerators : List (List ℕ → ℕ) → List ℕ → List ℕ
+numerators [] xs = []
+numerators (N ∷ Ns) xs = N xs ∷ numerators Ns xs
 
-    divisor-linear : Linear n divisor
-    divisor-linear = linear-plus n (λ zs. F zs + G zs) H (linear-plus n F G f g) h
+module _ (n : ℕ) (D : List ℕ → ℕ) (den : Linear n D) (xs ys : List ℕ) (p : length xs ≡ n) (q : length ys ≡ n) where
+  abbrev said : List (List ℕ → ℕ) → List ℕ → Said
+  said Ns zs = saidOver (numerators Ns zs) (D zs)
 
-    divisor-mixed : divisor (mix xs ys) ≡ divisor xs + divisor ys
-    divisor-mixed = divisor-linear .adds xs ys p q
+  each-between :
+      0 < D xs → 0 < D ys → (Ns : List (List ℕ → ℕ)) → AllOver n D Ns → (i : ℕ) →
+      Between (getD (eachOver (numerators Ns xs) (D xs)) i 0) (getD (eachOver (numerators Ns ys) (D ys)) i 0)
+      (getD (eachOver (numerators Ns (mix xs ys)) (D (mix xs ys))) i 0)
+  each-between a b [] l i = record { low = omega arith; high = omega arith }
+  each-between a b (N ∷ Ns) l zero =
+      between n (λ zs. 100000 * N zs) D (linear-times n 100000 N (l .0 .0)) den (λ zs z. omega (arith, l .0 .1 zs z)) .two xs ys p q a b
+  each-between a b (N ∷ Ns) l (suc i) = each-between a b Ns (l .1) i
 
-    pub xy-between :
-        (xy xs .number ≡ DARK → ⊥) → (xy ys .number ≡ DARK → ⊥) →
-        (xy (mix xs ys) .number ≡ 0) × ((i : ℕ) → Between (value (xy xs) i) (value (xy ys) i) (value (xy (mix xs ys)) i))
-    xy-between e e′ =
-        let a = xy-lit (F xs) (G xs) (H xs) e in
-        let b = xy-lit (F ys) (G ys) (H ys) e′ in
-        let c : 0 < divisor (mix xs ys) = (let m = divisor-mixed in omega arith) in
-        rw (xy-given (F xs) (G xs) (H xs) a, xy-given (F ys) (G ys) (H ys) b, xy-given (F (mix xs ys)) (G (mix xs ys)) (H (mix xs ys)) c)
-        (refl, go a b)
-      where
-        coordinate : (N : List ℕ → ℕ) → List ℕ → ℕ
-        coordinate N zs = nearest (100000 * N zs) (divisor zs)
+  pub said-between :
+      (Ns : List (List ℕ → ℕ)) → AllOver n D Ns → (said Ns xs .number ≡ DARK → ⊥) → (said Ns ys .number ≡ DARK → ⊥) →
+      (said Ns (mix xs ys) .number ≡ 0)
+      × ((i : ℕ) → Between (value (said Ns xs) i) (value (said Ns ys) i) (value (said Ns (mix xs ys)) i))
+  said-between Ns l e f =
+      let a = over-lit (numerators Ns xs) (D xs) e in
+      let b = over-lit (numerators Ns ys) (D ys) f in
+      let c : 0 < D (mix xs ys) = (let m = den .adds xs ys p q in omega arith) in
+      rw (
+        over-given (numerators Ns xs) (D xs) a,
+        over-given (numerators Ns ys) (D ys) b,
+        over-given (numerators Ns (mix xs ys)) (D (mix xs ys)) c,
+      )
+      (refl, each-between a b Ns l)
 
-        go :
-            0 < divisor xs → 0 < divisor ys → (i : ℕ) →
-            Between (getD (coordinate F xs ∷ coordinate G xs ∷ []) i 0) (getD (coordinate F ys ∷ coordinate G ys ∷ []) i 0)
-            (getD (coordinate F (mix xs ys) ∷ coordinate G (mix xs ys) ∷ []) i 0)
-        go a b zero =
-            between n (λ zs. 100000 * F zs) divisor (linear-times n 100000 F f) divisor-linear (λ zs z. omega arith) .two xs ys p q a b
-        go a b (suc zero) =
-            between n (λ zs. 100000 * G zs) divisor (linear-times n 100000 G g) divisor-linear (λ zs z. omega arith) .two xs ys p q a b
-        go a b (suc (suc i)) = record { low = omega arith; high = omega arith }
+  -- a dark part adds nothing to any numerator
+  each-dark :
+      D xs ≡ 0 → (Ns : List (List ℕ → ℕ)) → AllOver n D Ns →
+      (numerators Ns (mix xs ys) ≡ numerators Ns ys) × (numerators Ns (mix ys xs) ≡ numerators Ns ys)
+  each-dark z [] l = (refl, refl)
+  each-dark z (N ∷ Ns) l =
+      let none = l .0 .1 xs z in
+      let rest = each-dark z Ns (l .1) in
+      let first : N (mix xs ys) ≡ N ys = omega (arith, l .0 .0 .adds xs ys p q) in
+      let second : N (mix ys xs) ≡ N ys = omega (arith, l .0 .0 .adds ys xs q p) in
+      (rw (first, rest .0), rw (second, rest .1))
 
-    -- a dark part adds nothing to any sum
-    pub xy-one-dark : xy xs .number ≡ DARK → (xy (mix xs ys) ≡ xy ys) × (xy (mix ys xs) ≡ xy ys)
-    xy-one-dark e =
-        let z = xy-dark (F xs) (G xs) (H xs) e in
-        let none : (F xs ≡ 0) × (G xs ≡ 0) × (H xs ≡ 0) = omega arith in (
-          rw (f .adds xs ys p q, g .adds xs ys p q, h .adds xs ys p q, none .0, none .1, none .2) (simp zero-add),
-          rw (f .adds ys xs q p, g .adds ys xs q p, h .adds ys xs q p, none .0, none .1, none .2) (simp add-zero),
-        )
+  pub said-one-dark :
+      (Ns : List (List ℕ → ℕ)) → AllOver n D Ns → said Ns xs .number ≡ DARK →
+      (said Ns (mix xs ys) ≡ said Ns ys) × (said Ns (mix ys xs) ≡ said Ns ys)
+  said-one-dark Ns l e =
+      let z = over-dark (numerators Ns xs) (D xs) e in
+      let same = each-dark z Ns l in
+      let first : D (mix xs ys) ≡ D ys = omega (arith, den .adds xs ys p q) in
+      let second : D (mix ys xs) ≡ D ys = omega (arith, den .adds ys xs q p) in
+      (rw (same .0, first), rw (same .1, second))

@@ -1,63 +1,106 @@
--- Coordinates and the sums that they are worked from: where there is a divisor, and where there is none, and how large they are.
+-- Coordinates over one divisor: dark where it is 0, else each numerator's nearest; x and y are such.
 use mathlib.Core.Path.{_≡_, refl}
 use mathlib.Core.Bool.{Bool, true, false, cond, not-eq-not}
+use mathlib.Core.List.{List, [], _∷_}
 use Prim.Native.Nat.{ℕ, zero, suc, _+_, _*_, _≤_, _<_, zero-le}
-use native.Mathlib.Nat.{mul-le-mul-left}
+use native.Mathlib.Nat.{le-refl, le-trans, mul-le-mul-left}
 use native.Mathlib.Omega.{arith}
 use borrow.Author.Tests.{eqb-true, eqb-false, ne-eqb}
 use lib.Dec.{eqb}
+use lib.ListN.{getD}
 use Rattle.grid.specs.Refusals.{DARK}
 use Rattle.grid.specs.Check.{refusal}
-use Rattle.grid.specs.Said.{value}
-use Rattle.mixing.specs.Nearest.{nearest}
+use Rattle.grid.specs.Said.{Said, value, given, refusedWith}
 use Rattle.mixing.proofs.Nearest.{nearest-bound}
-use Rattle.answers.specs.declared.Xy.{Xy}
 use Rattle.answers.specs.declared.XyAnswer.{XyAnswer}
-use Rattle.answers.specs.Worked.{xyFrom, onChart}
+use Rattle.answers.specs.Worked.{inHundredThousandths, xyOver, xyFrom, onChart, chartFrom}
 use Rattle.answers.specs.Said.{saidXy, saidOnChart}
 
-module _ (x y z : ℕ) where
+-- each numerator over the divisor
+abbrev pub eachOver : List ℕ → ℕ → List ℕ
+eachOver [] d = []
+eachOver (n ∷ ns) d = inHundredThousandths n d ∷ eachOver ns d
+
+-- these, or DARK where the divisor is 0
+unfoldable pub saidOver : List ℕ → ℕ → Said
+saidOver ns d = cond (eqb d 0) (refusedWith (refusal DARK 0)) (given (eachOver ns d) [])
+
+-- each numerator, in hundred-thousandths, is at most so many divisors
+abbrev AtMost : List ℕ → List ℕ → ℕ → Type 0
+AtMost [] ts d = Unit {0}
+AtMost (n ∷ ns) [] d = ⊥
+AtMost (n ∷ ns) (t ∷ ts) d = (100000 * n ≤ t * d) × AtMost ns ts d
+
+each-most : (ns ts : List ℕ) (d : ℕ) → AtMost ns ts d → (i : ℕ) → getD (eachOver ns d) i 0 ≤ getD ts i 0
+each-most [] ts d m i = zero-le
+each-most (n ∷ ns) [] d m i = absurd m
+each-most (n ∷ ns) (t ∷ ts) d m zero = nearest-bound t (100000 * n) d (m .0)
+each-most (n ∷ ns) (t ∷ ts) d m (suc i) = each-most ns ts d (m .1) i
+
+module _ (ns : List ℕ) (d : ℕ) where
   -- coordinates that are not dark have a divisor
-  pub xy-lit : (saidXy (xyFrom x y z) .number ≡ DARK → ⊥) → 0 < x + y + z
-  unfolding xyFrom
-  xy-lit light =
-      let some = eqb-false (x + y + z) 0 (not-eq-not {a = eqb (x + y + z) 0} {b = false} .0 (λ p. light (rw p))) in
+  pub over-lit : (saidOver ns d .number ≡ DARK → ⊥) → 0 < d
+  unfolding saidOver
+  over-lit light =
+      let some = eqb-false d 0 (not-eq-not {a = eqb d 0} {b = false} .0 (λ p. light (rw p))) in
       omega arith
 
-  pub xy-given :
-      0 < x + y + z →
-      xyFrom x y z ≡ XyAnswer.Value (record { x = nearest (100000 * x) (x + y + z); y = nearest (100000 * y) (x + y + z) })
-  unfolding xyFrom
-  xy-given h = rw (ne-eqb (x + y + z) 0 (λ e. omega arith))
+  pub over-given : 0 < d → saidOver ns d ≡ given (eachOver ns d) []
+  unfolding saidOver
+  over-given h = rw (ne-eqb d 0 (λ e. omega arith))
 
   -- so they are given
-  pub xy-unless-dark : (saidXy (xyFrom x y z) .number ≡ DARK → ⊥) → saidXy (xyFrom x y z) .number ≡ 0
-  xy-unless-dark light = rw (xy-given (xy-lit light))
+  over-unless-dark : (saidOver ns d .number ≡ DARK → ⊥) → saidOver ns d .number ≡ 0
+  over-unless-dark light = rw (over-given (over-lit light))
 
   -- and dark ones have none
-  pub xy-dark : saidXy (xyFrom x y z) .number ≡ DARK → x + y + z ≡ 0
-  unfolding xyFrom
-  xy-dark e = eqb-true (x + y + z) 0 (not-eq-not {a = eqb (x + y + z) 0} {b = true} .0 (λ p. let h = rw p at e in omega arith))
+  pub over-dark : saidOver ns d .number ≡ DARK → d ≡ 0
+  unfolding saidOver
+  over-dark e = eqb-true d 0 (not-eq-not {a = eqb d 0} {b = true} .0 (λ p. let h = rw p at e in omega arith))
 
-  -- the chart is dark where they are
-  pub chart-number : saidOnChart (onChart (xyFrom x y z)) .number ≡ saidXy (xyFrom x y z) .number
-  unfolding xyFrom onChart
-  chart-number = go (eqb (x + y + z) 0) _
+  over-most : (ts : List ℕ) → AtMost ns ts d → (i : ℕ) → value (saidOver ns d) i ≤ getD ts i 0
+  unfolding saidOver
+  over-most ts m = go (eqb d 0)
     where
-      go : (b : Bool) (v : Xy) → let xy = cond b (XyAnswer.Refused (refusal DARK 0)) (XyAnswer.Value v) in saidOnChart (onChart xy) .number ≡ saidXy xy .number
-      go true v = refl
-      go false v = refl
+      go : (b : Bool) (i : ℕ) → value (cond b (refusedWith (refusal DARK 0)) (given (eachOver ns d) [])) i ≤ getD ts i 0
+      go true i = zero-le
+      go false i = each-most ns ts d m i
+
+module _ (x y z : ℕ) where
+  pub xy-is : saidXy (xyFrom x y z) ≡ saidOver (x ∷ y ∷ []) (x + y + z)
+  unfolding xyFrom saidOver
+  xy-is = go (eqb (x + y + z) 0)
+    where
+      go :
+          (b : Bool) →
+          saidXy (cond b (XyAnswer.Refused (refusal DARK 0)) (XyAnswer.Value (xyOver x y z)))
+          ≡ cond b (refusedWith (refusal DARK 0)) (given (eachOver (x ∷ y ∷ []) (x + y + z)) [])
+      go true = refl
+      go false = refl
+
+  pub xy-unless-dark : (saidXy (xyFrom x y z) .number ≡ DARK → ⊥) → saidXy (xyFrom x y z) .number ≡ 0
+  xy-unless-dark = rw xy-is (over-unless-dark (x ∷ y ∷ []) (x + y + z))
 
   -- each is at most 1
   pub xy-most : (i : ℕ) → value (saidXy (xyFrom x y z)) i ≤ 100000
-  unfolding xyFrom
-  xy-most = go (eqb (x + y + z) 0)
+  xy-most i =
+      le-trans
+      (rw xy-is (over-most (x ∷ y ∷ []) (x + y + z) (100000 ∷ 100000 ∷ []) (mul-le-mul-left 100000 (omega arith), (mul-le-mul-left 100000 (omega arith), tt)) i))
+      (both i)
+    where
+      both : (i : ℕ) → getD (100000 ∷ 100000 ∷ []) i 0 ≤ 100000
+      both zero = le-refl 100000
+      both (suc zero) = le-refl 100000
+      both (suc (suc i)) = zero-le
+
+  -- the chart is dark where they are
+  pub chart-number : saidOnChart (chartFrom x y z) .number ≡ saidXy (xyFrom x y z) .number
+  unfolding xyFrom onChart
+  chart-number = go (eqb (x + y + z) 0)
     where
       go :
-          (b : Bool) (i : ℕ) →
-          let v : Xy = record { x = nearest (100000 * x) (x + y + z); y = nearest (100000 * y) (x + y + z) } in
-          value (saidXy (cond b (XyAnswer.Refused (refusal DARK 0)) (XyAnswer.Value v))) i ≤ 100000
-      go true i = zero-le
-      go false zero = nearest-bound 100000 (100000 * x) (x + y + z) (mul-le-mul-left 100000 (omega arith))
-      go false (suc zero) = nearest-bound 100000 (100000 * y) (x + y + z) (mul-le-mul-left 100000 (omega arith))
-      go false (suc (suc i)) = zero-le
+          (b : Bool) →
+          let xy = cond b (XyAnswer.Refused (refusal DARK 0)) (XyAnswer.Value (xyOver x y z)) in
+          saidOnChart (onChart xy) .number ≡ saidXy xy .number
+      go true = refl
+      go false = refl

@@ -2,6 +2,7 @@
 -- the reading of this.
 use mathlib.Core.Path.{_≡_}
 use Prim.Native.Nat.{ℕ, _+_, _^_, _<_}
+use Rattle.grid.specs.declared.Refusal.{Refusal}
 use Rattle.grid.specs.declared.Check.{Check}
 use Rattle.grid.specs.declared.Check.the-variants.{Fine}
 use Rattle.exact.specs.Value.{short}
@@ -9,10 +10,7 @@ use Rattle.exact.specs.Fits.{Fits}
 use Rattle.tables.specs.declared.Curve.{Curve}
 use Rattle.curves.specs.declared.weigh.Sums.{Sums}
 use Rattle.curves.specs.Observer.{SumsBy}
-use Rattle.answers.specs.declared.XyAnswer.{XyAnswer}
-use Rattle.answers.specs.declared.ChartAnswer.{ChartAnswer}
 use Rattle.answers.specs.declared.from_sums.SumsAnswer.{SumsAnswer}
-use Rattle.answers.specs.Worked.{xyFrom, onChart}
 
 -- the sums by the observer's curves of what passes its check; of anything else, its refusal
 unfoldable pub Summed : Check → ℕ → (Curve → ℕ) → SumsAnswer → Type 0
@@ -30,12 +28,7 @@ pub record XyzFit (x y z d : ℕ) : Type 0 where
   pub y-fits : Fits y d
   pub z-fits : Fits z d
 
--- x and y from the sums, or their refusal
-unfoldable pub xySummed : SumsAnswer → XyAnswer
-xySummed (SumsAnswer.Given sums) = xyFrom (short (sums .x)) (short (sums .y)) (short (sums .z))
-xySummed (SumsAnswer.Refused refusal) = XyAnswer.Refused refusal
-
--- the chart's point of that x and y, or their refusal
-unfoldable pub chartSummed : SumsAnswer → ChartAnswer
-chartSummed (SumsAnswer.Given sums) = ChartAnswer.Given (onChart (xyFrom (short (sums .x)) (short (sums .y)) (short (sums .z))))
-chartSummed (SumsAnswer.Refused refusal) = ChartAnswer.Refused refusal
+-- what is worked from the sums that are given, or their refusal
+unfoldable pub fromSums : {A : Type 0} → (Refusal → A) → (ℕ → ℕ → ℕ → A) → SumsAnswer → A
+fromSums refused work (SumsAnswer.Given sums) = work (short (sums .x)) (short (sums .y)) (short (sums .z))
+fromSums refused work (SumsAnswer.Refused refusal) = refused refusal

@@ -17,11 +17,17 @@ use Rattle.answers.specs.declared.OnChart.{OnChart}
 abbrev pub xyzFrom : ℕ → ℕ → ℕ → ℕ → Xyz
 xyzFrom x y z d = record { x = nearest x d; y = nearest y d; z = nearest z d }
 
--- the nearest of 100000 X / (X + Y + Z), and likewise of Y, or DARK where the divisor is 0
+-- a fraction in hundred-thousandths, nearest
+abbrev pub inHundredThousandths : ℕ → ℕ → ℕ
+inHundredThousandths n d = nearest (100000 * n) d
+
+-- x = X / (X + Y + Z) and y = Y / (X + Y + Z)
+abbrev pub xyOver : ℕ → ℕ → ℕ → Xy
+xyOver x y z = record { x = inHundredThousandths x (x + y + z); y = inHundredThousandths y (x + y + z) }
+
+-- those, or DARK where the divisor is 0
 unfoldable pub xyFrom : ℕ → ℕ → ℕ → XyAnswer
-xyFrom x y z =
-    cond (eqb (x + y + z) 0) (XyAnswer.Refused (refusal DARK 0))
-    (XyAnswer.Value (record { x = nearest (100000 * x) (x + y + z); y = nearest (100000 * y) (x + y + z) }))
+xyFrom x y z = cond (eqb (x + y + z) 0) (XyAnswer.Refused (refusal DARK 0)) (XyAnswer.Value (xyOver x y z))
 
 -- a whole number of hundred-thousandths, made a float and divided once by 100000.0
 unfoldable pub coordinateFloat : ℕ → Float
@@ -33,5 +39,9 @@ chartPoint v = record { x = coordinateFloat (v .x); y = coordinateFloat (v .y) }
 
 -- a point where x and y are given, else dark
 unfoldable pub onChart : XyAnswer → OnChart
-onChart (XyAnswer.Value v) = OnChart.Point (chartPoint v)
+onChart (XyAnswer.Value xy) = OnChart.Point (chartPoint xy)
 onChart (XyAnswer.Refused r) = OnChart.Dark
+
+-- where three sums stand on the chart
+abbrev pub chartFrom : ℕ → ℕ → ℕ → OnChart
+chartFrom x y z = onChart (xyFrom x y z)

@@ -1,15 +1,21 @@
-// The chart's point of x and y.
+// The chart's point of three exact sums.
 use crate::ChartPoint;
 use crate::OnChart;
 use crate::Xy;
 use crate::XyAnswer;
+use crate::work::xy_from;
+use curves::weigh::Sums;
 ghost use mathlib.Core.Path.{_≡_};
-ghost use Rattle.answers.specs.Worked.{onChart, chartPoint, coordinateFloat};
+ghost use Prim.Native.Nat.{_+_, _^_, _<_};
+ghost use Rattle.exact.specs.Value.{short};
+ghost use Rattle.answers.specs.Worked.{chartFrom, chartPoint, coordinateFloat};
 
-// Dark where they are refused.
-pub fn on_chart(xy: XyAnswer) -> OnChart
-    ensures { λ r. ⌜ r ≡ onChart xy ⌝ }
+// Dark where x and y are refused.
+pub fn chart_from(sums: Sums) -> OnChart
+    requires { ⌜ short (sums .x) + short (sums .y) + short (sums .z) < 2 ^ 96 ⌝ }
+    ensures { λ r. ⌜ r ≡ chartFrom (short (sums .x)) (short (sums .y)) (short (sums .z)) ⌝ }
 {
+    let xy = xy_from(sums);
     match xy {
         XyAnswer::Value(v) => OnChart::Point(chart_point(v)),
         XyAnswer::Refused(_) => OnChart::Dark,

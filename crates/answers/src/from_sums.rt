@@ -1,12 +1,13 @@
 // What is answered from the three sums of a row that is checked first: a light's or a panel's.
 use crate::ChartAnswer;
 use crate::XyAnswer;
-use crate::chart::on_chart;
+use crate::chart::chart_from;
 use crate::work::xy_from;
 use curves::weigh::Sums;
 use grid::Refusal;
 ghost use mathlib.Core.Path.{_≡_};
-ghost use Rattle.answers.specs.FromSums.{ShortTotal, xySummed, chartSummed};
+ghost use Rattle.answers.specs.Worked.{xyFrom, chartFrom};
+ghost use Rattle.answers.specs.FromSums.{ShortTotal, fromSums};
 
 pub enum SumsAnswer {
     Given(Sums),
@@ -16,7 +17,7 @@ pub enum SumsAnswer {
 // x and y in hundred-thousandths.
 pub fn xy_summed(answer: SumsAnswer) -> XyAnswer
     requires { ⌜ ShortTotal answer ⌝ }
-    ensures { λ r. ⌜ r ≡ xySummed answer ⌝ }
+    ensures { λ r. ⌜ r ≡ fromSums XyAnswer.Refused xyFrom answer ⌝ }
 {
     match answer {
         SumsAnswer::Given(sums) => xy_from(sums),
@@ -27,10 +28,10 @@ pub fn xy_summed(answer: SumsAnswer) -> XyAnswer
 // The chart's point, or dark.
 pub fn chart_summed(answer: SumsAnswer) -> ChartAnswer
     requires { ⌜ ShortTotal answer ⌝ }
-    ensures { λ r. ⌜ r ≡ chartSummed answer ⌝ }
+    ensures { λ r. ⌜ r ≡ fromSums ChartAnswer.Refused (λ x y z. ChartAnswer.Given (chartFrom x y z)) answer ⌝ }
 {
     match answer {
-        SumsAnswer::Given(sums) => ChartAnswer::Given(on_chart(xy_from(sums))),
+        SumsAnswer::Given(sums) => ChartAnswer::Given(chart_from(sums)),
         SumsAnswer::Refused(refusal) => ChartAnswer::Refused(refusal),
     }
 }

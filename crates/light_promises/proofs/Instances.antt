@@ -4,6 +4,7 @@ use mathlib.Core.Bool.{true}
 use mathlib.Core.List.{List, [], _∷_}
 use Prim.Native.Nat.{ℕ, _+_, _*_, _-_, _≤_}
 use native.Mathlib.Nat.{add-comm}
+use native.Mathlib.Omega.{arith}
 use borrow.Author.Tests.{le-leb}
 use lib.ListN.{length, getD}
 use Rattle.grid.specs.declared.Check.the-variants.{Fine}
@@ -19,13 +20,14 @@ use Rattle.spectrum.proofs.Measured.{W-linear}
 use Rattle.grid.proofs.Light.{grid-fine}
 use Rattle.answers.specs.Said.{saidReading, saidXyz, saidXy}
 use Rattle.curves.specs.Observer.{curvesOf}
-use Rattle.answers.proofs.Mixed.{AllLinear, each-unit, each-order, xy-between, xy-one-dark}
+use Rattle.answers.proofs.Values.{saidOver, xy-is}
+use Rattle.answers.proofs.Mixed.{AllLinear, each-unit, each-order, AllOver, numerators, said-between, said-one-dark}
 use Rattle.efficacy.specs.Divisors.{divisorOf}
 use Rattle.readings.specs.Readings.{weighed, illuminanceOf, mesopicWeighed, mesopicOf, xyzOf, xyOf}
 use Rattle.readings.specs.Sums.{mesopicDivisor}
 use Rattle.readings.proofs.Worked.{illuminance-is, mesopic-is, xyz-is}
 use Rattle.readings.proofs.Small.{millilux-fits, mesopic-fits}
-use Rattle.light_promises.specs.Lights.{Mixable, OneUnit, InOrder, BothLit, OneDark}
+use Rattle.light_promises.specs.Lights.{Answer, Mixable, OneUnit, InOrder, BothLit, OneDark}
 
 pub mixture-accepted : (a s : ℕ) (xs ys : List ℕ) → Mixable a s xs ys → lightCheck a s (mix xs ys) ≡ Fine
 unfolding lightCheck
@@ -113,18 +115,55 @@ module _ (o : ℕ) (t : isObserver o ≡ true) where
       (each-order (length xs) (s * divisorOf y) (millilux-fits a s xs p y .divisor) xs ys refl (sym l)
       (colours a s) (colours-linear (length xs) a s) b)
 
-  pub between : BothLit (λ a s xs. saidXy (xyOf o a s xs))
-  unfolding xyOf
-  between a s xs ys m e f =
+-- of accepted lights, numerators over a divisor that are all linear
+record Over (answer : Answer) : Type 0 where
+  divisor : ℕ → ℕ → List ℕ → ℕ
+  parts : ℕ → ℕ → List (List ℕ → ℕ)
+  divisor-linear : (n a s : ℕ) → Linear n (divisor a s)
+  all-over : (n a s : ℕ) → AllOver n (divisor a s) (parts a s)
+  is : (a s : ℕ) (xs : List ℕ) → lightCheck a s xs ≡ Fine → answer a s xs ≡ saidOver (numerators (parts a s) xs) (divisor a s xs)
+
+module _ (answer : Answer) (over : Over answer) where
+  both-lit : BothLit answer
+  both-lit a s xs ys m e f =
       let n = length xs in
-      rw (t, m .first, m .second, mixture-accepted a s xs ys m)
-      (xy-between n _ _ _ (curve-linear n (curvesOf o .x) a s) (curve-linear n (curvesOf o .y) a s) (curve-linear n (curvesOf o .z) a s)
-      xs ys refl (sym (m .one-grid)) (rw (t, m .first) at e) (rw (t, m .second) at f))
+      let first = over .is a s xs (m .first) in
+      let second = over .is a s ys (m .second) in
+      rw (first, second, over .is a s (mix xs ys) (mixture-accepted a s xs ys m))
+      (said-between n (over .divisor a s) (over .divisor-linear n a s) xs ys refl (sym (m .one-grid)) (over .parts a s) (over .all-over n a s)
+      (rw first at e) (rw second at f))
+
+  one-is-dark : OneDark answer
+  one-is-dark a s xs ys m e f =
+      let n = length xs in
+      rw (
+        over .is a s ys (m .second),
+        over .is a s (mix xs ys) (mixture-accepted a s xs ys m),
+        over .is a s (mix ys xs) (mixture-accepted a s ys xs (swapped a s xs ys m)),
+      )
+      (said-one-dark n (over .divisor a s) (over .divisor-linear n a s) xs ys refl (sym (m .one-grid)) (over .parts a s) (over .all-over n a s)
+      (rw (over .is a s xs (m .first)) at e))
+
+module _ (o : ℕ) (t : isObserver o ≡ true) where
+  xy-over : Over (λ a s xs. saidXy (xyOf o a s xs))
+  unfolding xyOf
+  xy-over =
+      let x = curvesOf o .x in
+      let y = curvesOf o .y in
+      let z = curvesOf o .z in
+      record {
+        divisor = λ a s zs. weighed x a s zs + weighed y a s zs + weighed z a s zs;
+        parts = λ a s. (λ zs. weighed x a s zs) ∷ (λ zs. weighed y a s zs) ∷ [];
+        divisor-linear = λ n a s.
+            linear-plus n (λ zs. weighed x a s zs + weighed y a s zs) (λ zs. weighed z a s zs)
+            (linear-plus n (λ zs. weighed x a s zs) (λ zs. weighed y a s zs) (curve-linear n x a s) (curve-linear n y a s))
+            (curve-linear n z a s);
+        all-over = λ n a s. ((curve-linear n x a s, (λ zs e. omega arith)), ((curve-linear n y a s, (λ zs e. omega arith)), tt));
+        is = λ a s xs fine. rw (t, fine) (xy-is _ _ _);
+      }
+
+  pub between : BothLit (λ a s xs. saidXy (xyOf o a s xs))
+  between = both-lit _ xy-over
 
   pub one-dark : OneDark (λ a s xs. saidXy (xyOf o a s xs))
-  unfolding xyOf
-  one-dark a s xs ys m e f =
-      let n = length xs in
-      rw (t, m .second, mixture-accepted a s xs ys m, mixture-accepted a s ys xs (swapped a s xs ys m))
-      (xy-one-dark n _ _ _ (curve-linear n (curvesOf o .x) a s) (curve-linear n (curvesOf o .y) a s) (curve-linear n (curvesOf o .z) a s)
-      xs ys refl (sym (m .one-grid)) (rw (t, m .first) at e))
+  one-dark = one-is-dark _ xy-over

@@ -18,7 +18,7 @@ use Rattle.tables.specs.declared.Curve.the-variants.{YBar, VPrime}
 use Rattle.tables.specs.Curves.{weightOf}
 use Rattle.tables.specs.Columns.{tableSum}
 use Rattle.tables.proofs.Columns.{column-total}
-use Rattle.answers.specs.Worked.{xyFrom, onChart}
+use Rattle.answers.specs.Worked.{xyFrom, chartFrom}
 use Rattle.answers.specs.Said.{saidReading, saidXyz, saidXy, saidOnChart, saidChart}
 use Rattle.answers.proofs.Values.{xy-unless-dark, xy-most, chart-number}
 use Rattle.curves.specs.Observer.{curvesOf}
@@ -145,7 +145,7 @@ mesopic-any k few =
     rw (mesopic-0, greatest-is k) (omega arith)
 
 -- the chart's point is dark where x and y are
-pub coordinates : (x y z : ℕ) → Coordinates (saidXy (xyFrom x y z)) (saidOnChart (onChart (xyFrom x y z)))
+pub coordinates : (x y z : ℕ) → Coordinates (saidXy (xyFrom x y z)) (saidOnChart (chartFrom x y z))
 coordinates x y z = record {
   xy-given = xy-unless-dark x y z;
   at-most = xy-most x y z;

@@ -16,7 +16,7 @@ use Rattle.answers.specs.declared.Xyz.{Xyz}
 use Rattle.answers.specs.declared.XyzAnswer.{XyzAnswer}
 use Rattle.answers.specs.declared.XyAnswer.{XyAnswer}
 use Rattle.answers.specs.declared.ChartAnswer.{ChartAnswer}
-use Rattle.answers.specs.Worked.{xyzFrom, xyFrom, onChart}
+use Rattle.answers.specs.Worked.{xyzFrom, xyFrom, chartFrom}
 use Rattle.curves.specs.Observer.{curvesOf}
 
 -- ILLUMINANT: neither 1 (A) nor 2 (D65)
@@ -67,4 +67,6 @@ panelXyOf o i a s rs = unless (panelCheck o i a s rs) XyAnswer.Refused (panelXy 
 
 -- dark where x and y would be refused DARK; the other refusals hold as for x and y
 unfoldable pub panelChartOf : ℕ → ℕ → ℕ → ℕ → List ℕ → ChartAnswer
-panelChartOf o i a s rs = unless (panelCheck o i a s rs) ChartAnswer.Refused (ChartAnswer.Given (onChart (panelXy o i a s rs)))
+panelChartOf o i a s rs =
+    unless (panelCheck o i a s rs) ChartAnswer.Refused
+    (ChartAnswer.Given (chartFrom (panelXSum o i a s rs) (panelYSum o i a s rs) (panelZSum o i a s rs)))

@@ -15,7 +15,7 @@ use Rattle.answers.specs.declared.Xyz.{Xyz}
 use Rattle.answers.specs.declared.XyzAnswer.{XyzAnswer}
 use Rattle.answers.specs.declared.XyAnswer.{XyAnswer}
 use Rattle.answers.specs.declared.ChartAnswer.{ChartAnswer}
-use Rattle.answers.specs.Worked.{xyFrom, onChart}
+use Rattle.answers.specs.Worked.{xyFrom, chartFrom}
 use Rattle.efficacy.specs.Efficacy.{inMillilux, mesopicBracket}
 use Rattle.curves.specs.Observer.{curvesOf}
 use Rattle.readings.specs.declared.figures.ReportFigures.{ReportFigures}
@@ -92,7 +92,8 @@ xyOf o a s xs = unless (colourCheck o a s xs) XyAnswer.Refused (lightXy o a s xs
 
 -- dark where x and y would be refused DARK; the other refusals hold as for x and y
 unfoldable pub chartOf : ℕ → ℕ → ℕ → List ℕ → ChartAnswer
-chartOf o a s xs = unless (colourCheck o a s xs) ChartAnswer.Refused (ChartAnswer.Given (onChart (lightXy o a s xs)))
+chartOf o a s xs =
+    unless (colourCheck o a s xs) ChartAnswer.Refused (ChartAnswer.Given (chartFrom (xSum o a s xs) (ySum o a s xs) (zSum o a s xs)))
 
 -- the figures of the report, at observer 2, each as it is given by itself: x and y may be dark beside the others
 abbrev pub lightFigures : ℕ → ℕ → List ℕ → ReportFigures

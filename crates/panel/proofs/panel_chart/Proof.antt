@@ -1,6 +1,6 @@
 -- The chart's point is that of coordinates that are worked from the sums of an accepted panel.
 use mathlib.Core.Path.{_∙_}
-use Rattle.answers.proofs.FromSums.{chart-summed}
+use Rattle.answers.proofs.FromSums.{from-sums}
 use Rattle.panel.specs.Panel.{panelChartOf}
 use Rattle.panel.proofs.Worked.{short-total}
 use borrow.Author.Needs.{needs}
@@ -14,7 +14,7 @@ chart-summed-requires c κs =
 
 returns : tie.Need-returns
 unfolding panelChartOf
-returns c = c .chart-summed .ensures ∙ chart-summed _ _ _ (c .before .panel-sums .result) (c .before .panel-sums .ensures)
+returns c = c .chart-summed .ensures ∙ from-sums _ _ _ _ _ (c .before .panel-sums .result) (c .before .panel-sums .ensures)
 
 pub panel-chart-spec : {M : Type 1} → statement M
 panel-chart-spec = tie.close (tie.spec (λ c κs. search needs) chart-summed-requires returns)

@@ -1,6 +1,6 @@
 -- The coordinates are worked from the sums of an accepted panel.
 use mathlib.Core.Path.{_∙_}
-use Rattle.answers.proofs.FromSums.{xy-summed}
+use Rattle.answers.proofs.FromSums.{from-sums}
 use Rattle.panel.specs.Panel.{panelXyOf}
 use Rattle.panel.proofs.Worked.{short-total}
 use borrow.Author.Needs.{needs}
@@ -14,7 +14,7 @@ xy-summed-requires c κs =
 
 returns : tie.Need-returns
 unfolding panelXyOf
-returns c = c .xy-summed .ensures ∙ xy-summed _ _ _ (c .before .panel-sums .result) (c .before .panel-sums .ensures)
+returns c = c .xy-summed .ensures ∙ from-sums _ _ _ _ _ (c .before .panel-sums .result) (c .before .panel-sums .ensures)
 
 pub panel-xy-spec : {M : Type 1} → statement M
 panel-xy-spec = tie.close (tie.spec (λ c κs. search needs) xy-summed-requires returns)

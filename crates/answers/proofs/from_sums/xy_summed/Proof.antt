@@ -1,5 +1,5 @@
--- The two arms are those of xySummed.
-use Rattle.answers.specs.FromSums.{xySummed}
+-- The two arms are those of fromSums.
+use Rattle.answers.specs.FromSums.{fromSums}
 use borrow.Author.Needs.{needs}
 use Rattle.answers.proofs.from_sums.xy_summed.Statement.{statement}
 use Rattle.answers.proofs.from_sums.xy_summed.Tie as tie
@@ -8,11 +8,11 @@ xy-from-requires : tie.Need-xy-from-requires
 xy-from-requires c κs = c .before .before .before .pre _ (c .before .answer .given .1)
 
 returns : tie.Need-returns
-unfolding xySummed
+unfolding fromSums
 returns c = rw (c .before .before .answer .given .1) (c .xy-from .ensures)
 
 returns-2 : tie.Need-returns-2
-unfolding xySummed
+unfolding fromSums
 returns-2 c = rw (c .before .answer2 .given .1)
 
 pub xy-summed-spec : {M : Type 1} → statement M

@@ -1,6 +1,6 @@
 -- The chart's point is that of coordinates that are worked from the sums of an accepted light.
 use mathlib.Core.Path.{_∙_}
-use Rattle.answers.proofs.FromSums.{chart-summed}
+use Rattle.answers.proofs.FromSums.{from-sums}
 use Rattle.readings.specs.Readings.{chartOf}
 use Rattle.readings.proofs.Part.{short-total}
 use borrow.Author.Needs.{needs}
@@ -14,7 +14,7 @@ chart-summed-requires c κs =
 
 returns : tie.Need-returns
 unfolding chartOf
-returns c = c .chart-summed .ensures ∙ chart-summed _ _ _ (c .before .light-sums .result) (c .before .light-sums .ensures)
+returns c = c .chart-summed .ensures ∙ from-sums _ _ _ _ _ (c .before .light-sums .result) (c .before .light-sums .ensures)
 
 pub chart-spec : {M : Type 1} → statement M
 chart-spec = tie.close (tie.spec (λ c κs. search needs) chart-summed-requires returns)

@@ -1,6 +1,6 @@
 -- The coordinates are worked from the sums of an accepted light.
 use mathlib.Core.Path.{_∙_}
-use Rattle.answers.proofs.FromSums.{xy-summed}
+use Rattle.answers.proofs.FromSums.{from-sums}
 use Rattle.readings.specs.Readings.{xyOf}
 use Rattle.readings.proofs.Part.{short-total}
 use borrow.Author.Needs.{needs}
@@ -14,7 +14,7 @@ xy-summed-requires c κs =
 
 returns : tie.Need-returns
 unfolding xyOf
-returns c = c .xy-summed .ensures ∙ xy-summed _ _ _ (c .before .light-sums .result) (c .before .light-sums .ensures)
+returns c = c .xy-summed .ensures ∙ from-sums _ _ _ _ _ (c .before .light-sums .result) (c .before .light-sums .ensures)
 
 pub xy-spec : {M : Type 1} → statement M
 xy-spec = tie.close (tie.spec (λ c κs. search needs) xy-summed-requires returns)
