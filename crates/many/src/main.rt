@@ -2,7 +2,6 @@
 // implementation; how an input is made is said there.
 mod made;
 mod records;
-mod shown;
 
 use libc::STDOUT_FILENO;
 use made::draw;

@@ -1,13 +1,13 @@
 // What is printed of an input's record: written where there is little room, written whole, read back, and read again damaged.
 use crate::made::draw;
 use crate::made::place_in;
-use crate::shown::also;
-use crate::shown::number;
-use crate::shown::refused;
-use crate::shown::space;
 use libc::STDOUT_FILENO;
 use record::RecordRead;
 use record::RecordWritten;
+use shown::also;
+use shown::number;
+use shown::refused;
+use shown::space;
 ghost use mathlib.Core.Path.{_≡_};
 ghost use Prim.Native.Nat.{_≤_, _<_};
 

@@ -4,8 +4,8 @@ use mathlib.Core.Bool.{not}
 use borrow.Author.Needs.{needs}
 use lib.Dec.{T}
 use lib.Ieee.{Float, nan, inf, fin, isNan, lt, eq, le}
-use Rattle.many.proofs.shown.bits.Statement.{statement}
-use Rattle.many.proofs.shown.bits.Tie as tie
+use Rattle.shown.proofs.bits.Statement.{statement}
+use Rattle.shown.proofs.bits.Tie as tie
 
 no-nan : (x y : Float) → T (le x y) → T (not (isNan x))
 unfolding isNan le lt eq
