@@ -33,7 +33,7 @@ enum {
     QR_OBSERVER = 6,     /* neither 2 nor 10 */
     QR_ILLUMINANT = 7,   /* neither 1 (A) nor 2 (D65) */
     QR_REFLECTANCE = 8,  /* a reflectance above 10,000 */
-    QR_DARK = 9,         /* x and y where the three exact sums are 0 */
+    QR_DARK = 9,         /* x and y, or u' and v', where the three exact sums are 0 */
     QR_EDITION = 10,     /* the record's edition isn't 1 */
     QR_RESERVED = 11,    /* the record's reserved bit is 1 */
     QR_LENGTH = 12,      /* the record isn't as long as its header calls for */
@@ -51,7 +51,8 @@ enum {
 typedef struct { uint32_t number, place, value; } qr_reading;
 typedef struct { uint32_t number, place, x, y, z; } qr_xyz_answer;
 typedef struct { uint32_t number, place, x, y; } qr_xy_answer;
-typedef struct { uint32_t number, place; double x, y; } qr_chart_answer;
+typedef struct { uint32_t number, place, u, v; } qr_uv_answer;
+typedef struct { uint32_t number, place; double x, y, u, v; } qr_chart_answer;
 typedef struct { uint32_t number, place, start, step, count; } qr_record_answer;
 typedef struct { uint32_t number, place, length; } qr_written;
 typedef struct { uint32_t number, place, photopic, scotopic, X, Y, Z, xy_number, x, y; } qr_figures_answer;
@@ -64,14 +65,17 @@ qr_reading qr_scotopic(uint32_t start, uint32_t step, const uint32_t *samples, s
 qr_reading qr_photopic_10(uint32_t start, uint32_t step, const uint32_t *samples, size_t count);
 qr_reading qr_mesopic(uint32_t k, uint32_t start, uint32_t step, const uint32_t *samples, size_t count);
 
-/* X, Y, Z in millilux; x, y in hundred-thousandths; the chart's point, DARK as x, y are. Observer 2 or 10. */
+/* X, Y, Z in millilux; x, y and u', v' in hundred-thousandths; the chart's point, which has all four as floats. All but X, Y, Z are
+   refused alike, DARK too. Observer 2 or 10. */
 qr_xyz_answer qr_xyz(uint32_t observer, uint32_t start, uint32_t step, const uint32_t *samples, size_t count);
 qr_xy_answer qr_xy(uint32_t observer, uint32_t start, uint32_t step, const uint32_t *samples, size_t count);
+qr_uv_answer qr_uv(uint32_t observer, uint32_t start, uint32_t step, const uint32_t *samples, size_t count);
 qr_chart_answer qr_chart(uint32_t observer, uint32_t start, uint32_t step, const uint32_t *samples, size_t count);
 
-/* A panel under illuminant A (1) or D65 (2): X, Y, Z in thousandths, white being 100000; x, y; the chart's point. */
+/* A panel under illuminant A (1) or D65 (2): X, Y, Z in thousandths, white being 100000; x, y; u', v'; the chart's point. */
 qr_xyz_answer qr_panel_xyz(uint32_t observer, uint32_t illuminant, uint32_t start, uint32_t step, const uint16_t *reflectances, size_t count);
 qr_xy_answer qr_panel_xy(uint32_t observer, uint32_t illuminant, uint32_t start, uint32_t step, const uint16_t *reflectances, size_t count);
+qr_uv_answer qr_panel_uv(uint32_t observer, uint32_t illuminant, uint32_t start, uint32_t step, const uint16_t *reflectances, size_t count);
 qr_chart_answer qr_panel_chart(uint32_t observer, uint32_t illuminant, uint32_t start, uint32_t step, const uint16_t *reflectances, size_t count);
 
 /* The report's figures of a light in one call, at observer 2; a panel's X, Y, Z and x, y in one call. Where number is 0,

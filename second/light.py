@@ -189,22 +189,30 @@ def panel_sums(observer, illuminant, start, step, reflectances):
     return [weigh(weights, lit) for weights in OBSERVERS[observer][1]]
 
 
-def coordinates(sums):
-    """x and y in hundred-thousandths from three exact sums, or refused 9."""
-    total = sum(sums)
-    if total == 0:
+def coordinates(parts, divisor):
+    """Each part over the divisor in hundred-thousandths, or refused 9."""
+    if divisor == 0:
         return Refused(DARK)
-    return nearest(100_000 * sums[0], total), nearest(100_000 * sums[1], total)
+    return tuple(nearest(100_000 * part, divisor) for part in parts)
 
 
-def charted(answer):
-    """The chart answer for an answer of x and y: "dark" takes the place of refusal 9."""
-    if answer == Refused(DARK):
+def xy_from(x_sum, y_sum, z_sum):
+    """x and y from three exact sums."""
+    return coordinates((x_sum, y_sum), x_sum + y_sum + z_sum)
+
+
+def uv_from(x_sum, y_sum, z_sum):
+    """u' and v' from three exact sums. No sum is below 0, so this is dark where x and y are."""
+    return coordinates((4 * x_sum, 9 * y_sum), x_sum + 15 * y_sum + 3 * z_sum)
+
+
+def charted(xy_answer, uv_answer):
+    """The chart answer: "dark" takes the place of refusal 9. Both pairs are refused alike."""
+    if xy_answer == Refused(DARK):
         return "dark"
-    if isinstance(answer, Refused):
-        return answer
-    x, y = answer
-    return float(x) / 100000.0, float(y) / 100000.0
+    if isinstance(xy_answer, Refused):
+        return xy_answer
+    return tuple(float(each) / 100000.0 for each in (*xy_answer, *uv_answer))
 
 
 # The readings of a light.
@@ -255,18 +263,29 @@ def xyz(observer, start, step, samples):
     return tuple(nearest(efficacy * each, step * SCALE) for each in sums)
 
 
-def xy(observer, start, step, samples):
-    """x and y in hundred-thousandths."""
+def light_colour(pair_from, observer, start, step, samples):
+    """The pair that `pair_from` makes of the light's three sums."""
     if observer not in OBSERVERS:
         return Refused(OBSERVER)
     if refused := refuse_light(start, step, samples):
         return refused
-    return coordinates(light_sums(observer, start, step, samples))
+    return pair_from(*light_sums(observer, start, step, samples))
+
+
+def xy(observer, start, step, samples):
+    """x and y in hundred-thousandths."""
+    return light_colour(xy_from, observer, start, step, samples)
+
+
+def uv(observer, start, step, samples):
+    """u' and v' in hundred-thousandths."""
+    return light_colour(uv_from, observer, start, step, samples)
 
 
 def chart(observer, start, step, samples):
-    """x and y as two floats, or "dark"."""
-    return charted(xy(observer, start, step, samples))
+    """x, y, u' and v' as four floats, or "dark"."""
+    given = observer, start, step, samples
+    return charted(xy(*given), uv(*given))
 
 
 def figures(start, step, samples):
@@ -293,16 +312,27 @@ def panel_xyz(observer, illuminant, start, step, reflectances):
     return tuple(nearest(10 * each, step * white) for each in sums)
 
 
-def panel_xy(observer, illuminant, start, step, reflectances):
-    """x and y of a panel in hundred-thousandths."""
+def panel_colour(pair_from, observer, illuminant, start, step, reflectances):
+    """The pair that `pair_from` makes of the panel's three sums."""
     if refused := refuse_panel(observer, illuminant, start, step, reflectances):
         return refused
-    return coordinates(panel_sums(observer, illuminant, start, step, reflectances))
+    return pair_from(*panel_sums(observer, illuminant, start, step, reflectances))
+
+
+def panel_xy(observer, illuminant, start, step, reflectances):
+    """x and y of a panel in hundred-thousandths."""
+    return panel_colour(xy_from, observer, illuminant, start, step, reflectances)
+
+
+def panel_uv(observer, illuminant, start, step, reflectances):
+    """u' and v' of a panel in hundred-thousandths."""
+    return panel_colour(uv_from, observer, illuminant, start, step, reflectances)
 
 
 def panel_chart(observer, illuminant, start, step, reflectances):
-    """x and y of a panel as two floats, or "dark"."""
-    return charted(panel_xy(observer, illuminant, start, step, reflectances))
+    """x, y, u' and v' of a panel as four floats, or "dark"."""
+    given = observer, illuminant, start, step, reflectances
+    return charted(panel_xy(*given), panel_uv(*given))
 
 
 def panel_figures(observer, illuminant, start, step, reflectances):

@@ -6,7 +6,8 @@
 import random
 import unittest
 from fractions import Fraction
-from itertools import product
+from itertools import combinations, product
+from math import exp, hypot
 from operator import add, mul
 
 import light
@@ -54,12 +55,36 @@ def grids(starts=range(300, 381)):
         yield start, step, (830 - start) // step + 1
 
 
+def spectra(starts=range(300, 381)):
+    """Start, step and samples: accepted rows on any grid, bright, dim and sparse."""
+    draw = random.Random(2)
+    for start, step, count in grids(starts):
+        largest, lit = draw.choice((1, 20, 1_000, FULL, FULL)), draw.choice((3, count))
+        samples = [0] * count
+        for place in draw.sample(range(count), lit):
+            samples[place] = draw.randint(0, largest)
+        yield start, step, samples
+
+
+def lit_spectra(starts):
+    """Those that are not dark."""
+    return (each for each in spectra(starts) if light.xy(2, *each) != Refused(9))
+
+
 def line(step, samples):
     """T at each whole nanometre of the measured range."""
     row = []
     for low, high in zip(samples, samples[1:]):
         row += [(step - d) * low + d * high for d in range(step)]
     return [*row, step * samples[-1]]
+
+
+def colour_readings():
+    """x, y and u', v' of a light as functions of start, step and samples."""
+    return {
+        **{f"x, y {o}": lambda *given, o=o: light.xy(o, *given) for o in (2, 10)},
+        **{f"u', v' {o}": lambda *given, o=o: light.uv(o, *given) for o in (2, 10)},
+    }
 
 
 def light_readings():
@@ -71,7 +96,7 @@ def light_readings():
         "figures": light.figures,
         **{f"mesopic {k}": lambda *given, k=k: light.mesopic(k, *given) for k in (0, 500, 1000)},
         **{f"X, Y, Z {o}": lambda *given, o=o: light.xyz(o, *given) for o in (2, 10)},
-        **{f"x, y {o}": lambda *given, o=o: light.xy(o, *given) for o in (2, 10)},
+        **colour_readings(),
         **{f"chart {o}": lambda *given, o=o: light.chart(o, *given) for o in (2, 10)},
     }
 
@@ -137,6 +162,7 @@ class Bench(unittest.TestCase):
         self.assertEqual(light.mesopic(500, *given), 0)
         self.assertEqual(light.xyz(2, *given), (0, 0, 0))
         self.assertEqual(light.xy(2, *given), Refused(9))
+        self.assertEqual(light.uv(2, *given), Refused(9))
         self.assertEqual(light.chart(2, *given), "dark")
         self.assertEqual(light.figures(*given), (0, 0, 0, 0, 0, "dark"))
 
@@ -146,7 +172,10 @@ class Bench(unittest.TestCase):
         self.assertEqual(light.scotopic(*given), 963972)
         self.assertEqual(light.xyz(2, *given), (198617, 40980, 1140066))
         self.assertEqual(light.xy(2, *given), (14396, 2970))
-        self.assertEqual(light.chart(2, *given), (14396 / 100000.0, 2970 / 100000.0))
+        # The functions are 0.2908, 0.06 and 1.6692 here, so the divisor is 6.1984.
+        self.assertEqual(light.uv(2, *given), (18766, 8712))
+        point = 14396 / 100000.0, 2970 / 100000.0, 18766 / 100000.0, 8712 / 100000.0
+        self.assertEqual(light.chart(2, *given), point)
         expected = (40980, 963972, 198617, 40980, 1140066, (14396, 2970))
         self.assertEqual(light.figures(*given), expected)
 
@@ -174,12 +203,15 @@ class Bench(unittest.TestCase):
         self.assertEqual(light.photopic(*given), 115632)
         self.assertEqual(light.scotopic(*given), 1446808)
         self.assertEqual(light.xy(2, *given), (6871, 20072))
+        # The functions are 0.05795001, 0.1693 and 0.6162 here, so the divisor is 4.44605001.
+        self.assertEqual(light.uv(2, *given), (5214, 34271))
 
     def test_p7_p2_and_p6_mixed(self):
-        samples = lone(FULL, 460)
-        samples[485 - 380] = FULL
-        self.assertEqual(light.photopic(380, 1, samples), 156612)
-        self.assertEqual(light.xy(2, 380, 1, samples), (12179, 8008))
+        given = 380, 1, pair((FULL, 460), (FULL, 485))
+        self.assertEqual(light.photopic(*given), 156612)
+        self.assertEqual(light.xy(2, *given), (12179, 8008))
+        # u' is 1.39500004 and v' 2.0637 over 10.64445001.
+        self.assertEqual(light.uv(2, *given), (13105, 19388))
 
     def test_p8_p3_mixed_with_itself(self):
         # The two readings sum to 2050.
@@ -203,7 +235,8 @@ class Readings(unittest.TestCase):
     def test_colour_is_not_worked_from_rounded_readings(self):
         given = 2, 380, 1, lone(1, 460)
         self.assertEqual(light.xyz(*given), (0, 0, 1))
-        self.assertEqual(light.xy(*given)[0], 14396)
+        self.assertEqual(light.xy(*given), (14396, 2970))
+        self.assertEqual(light.uv(*given), (18766, 8712))
 
     def assert_half_goes_up(self, half, exactly, reading, row, less):
         """`exactly` is a row's exact reading, and `less` a row a little below `row`."""
@@ -269,6 +302,12 @@ class Readings(unittest.TestCase):
         # x is exactly 73437.5 and y 26562.5, since z has no weight here.
         self.assertEqual(light.xy(2, 380, 1, samples), (73438, 26563))
 
+    def test_chart_has_each_coordinate_over_100000(self):
+        for spectrum, observer in product(lit_spectra((300, 355, 380)), OBSERVERS):
+            colour = light.xy(observer, *spectrum) + light.uv(observer, *spectrum)
+            expected = tuple(float(each) / 100000.0 for each in colour)
+            self.assertEqual(light.chart(observer, *spectrum), expected)
+
     def test_sample_below_360_pulls_on_the_line_that_crosses_360(self):
         # Samples stand at 359 and 361, so T is FULL at 360 and 0 beyond.
         samples = lone(FULL, 359, start=301, step=2, last=781)
@@ -292,6 +331,117 @@ class Readings(unittest.TestCase):
             given = 380, 5, [draw.randrange(FULL + 1) for _ in range(81)]
             self.assertEqual(light.xyz(2, *given)[1], light.photopic(*given))
             self.assertEqual(light.xyz(10, *given)[1], light.photopic_10(*given))
+
+
+# The equations of u' and v', in either form in which they are printed. Given
+# fractions they are exact.
+
+
+def first_form(x, y, z):
+    """u' and v' from X, Y and Z or any three in their ratio."""
+    divisor = x + 15 * y + 3 * z
+    return 4 * x / divisor, 9 * y / divisor
+
+
+def second_form(x, y):
+    """u' and v' from the coordinates x and y."""
+    divisor = -2 * x + 12 * y + 3
+    return 4 * x / divisor, 9 * y / divisor
+
+
+def hundred_thousandths(coordinates):
+    return tuple(light.nearest(100_000 * each, 1) for each in coordinates)
+
+
+class UniformScale(unittest.TestCase):
+    """u' and v', the coordinates of the 1976 diagram."""
+
+    def assert_both_forms_give(self, answer, sums):
+        x, y, _ = (Fraction(each, sum(sums)) for each in sums)
+        exactly = first_form(*map(Fraction, sums))
+        self.assertEqual(second_form(x, y), exactly)
+        self.assertEqual(answer, hundred_thousandths(exactly))
+
+    def test_both_forms_of_the_equations_give_what_is_read(self):
+        for spectrum in lit_spectra((300, 321, 347, 355, 360, 380)):
+            start, step, samples = spectrum
+            # Within the limit of a panel, and 0 only where the sample is.
+            reflectances = [(sample + 99) // 100 for sample in samples]
+            for observer in OBSERVERS:
+                sums = light.light_sums(observer, *spectrum)
+                self.assert_both_forms_give(light.uv(observer, *spectrum), sums)
+                for illuminant in ILLUMINANTS:
+                    given = observer, illuminant, start, step, reflectances
+                    sums = light.panel_sums(*given)
+                    self.assert_both_forms_give(light.panel_uv(*given), sums)
+
+    def test_they_are_not_worked_from_rounded_x_and_y(self):
+        cases = {460: ((18766, 8712), (18766, 8711)), 654: ((60531, 50920), (60529, 50921))}
+        for wavelength, (expected, slipped) in cases.items():
+            given = 2, 380, 1, lone(FULL, wavelength)
+            x, y = (Fraction(each, 100_000) for each in light.xy(*given))
+            self.assertEqual(light.uv(*given), expected)
+            self.assertEqual(hundred_thousandths(second_form(x, y)), slipped)
+
+    def test_exact_halves_go_up(self):
+        u, v = 0, 1
+        cases = [
+            (2, u, "1188.5", pair((793, 495), (16, 515))),
+            (2, v, "50752.5", pair((138, 670), (43, 675))),
+            (10, u, "22562.5", pair((25, 431), (439, 569))),
+            (10, v, "51237.5", pair((1, 677), (30, 729))),
+        ]
+        for observer, i, half, samples in cases:
+            given = observer, 380, 1, samples
+            exactly = first_form(*map(Fraction, light.light_sums(*given)))[i]
+            self.assertEqual(100_000 * exactly, Fraction(half))
+            self.assertEqual(light.uv(*given)[i], Fraction(half) + Fraction(1, 2))
+
+    def test_dark_is_where_the_divisor_is_0_and_both_divisors_are_0_together(self):
+        for sums in product((0, 1, 10**30), repeat=3):
+            for pair_from in (light.xy_from, light.uv_from):
+                self.assertEqual(pair_from(*sums) == Refused(9), sums == (0, 0, 0))
+        # A coordinate of 0 isn't dark.
+        self.assertEqual(light.uv_from(0, 0, 1), (0, 0))
+        self.assertEqual(light.uv_from(0, 1, 0), (0, 60_000))
+        self.assertEqual(light.uv_from(1, 0, 0), (400_000, 0))
+
+
+class Temperatures(unittest.TestCase):
+    """The printed colour temperatures of A and D65, from u' and v' of the white panel.
+
+    These are exact: from the rounded ones D65 would be at 6502.
+    """
+
+    def planckian(self, kelvin):
+        """u' and v' of a Planckian radiator for observer 2, with a c2 of 14388 µm·K."""
+        power = [w**-5 / (exp(14_388_000 / (w * kelvin)) - 1) for w in range(360, 831)]
+        return first_form(*(sum(map(mul, power, weights)) for weights in OBSERVERS[2][1]))
+
+    def correlated(self, illuminant):
+        """The whole temperature of the nearest Planckian radiator, where 2/3 v' is against u'."""
+        white = 2, illuminant, 360, 1, panel(10_000)
+        exactly = first_form(*map(Fraction, light.panel_sums(*white)))
+        self.assertEqual(hundred_thousandths(exactly), light.panel_uv(*white))
+        u, v = map(float, exactly)
+
+        def distance(kelvin):
+            planckian_u, planckian_v = self.planckian(kelvin)
+            return hypot(planckian_u - u, 2 / 3 * (planckian_v - v))
+
+        near = min(range(2_000, 10_000, 100), key=distance)
+        return min(range(near - 100, near + 101), key=distance)
+
+    def test_illuminant_a(self):
+        self.assertEqual(self.correlated(1), 2856)
+
+    def test_illuminant_d65(self):
+        self.assertEqual(self.correlated(2), 6503)
+
+    def test_illuminant_a_is_a_planckian_radiator(self):
+        kelvin = 2848 * 14_388 / 14_350
+        white = light.panel_uv(2, 1, 360, 1, panel(10_000))
+        self.assertEqual(hundred_thousandths(self.planckian(kelvin)), white)
 
 
 class Reference(unittest.TestCase):
@@ -347,16 +497,6 @@ class Reference(unittest.TestCase):
 class MesopicEnds(unittest.TestCase):
     """Mesopic is scotopic at k = 0 and photopic at k = 1000, whatever is given."""
 
-    def spectra(self):
-        """Start, step and samples: accepted rows on any grid, bright, dim and sparse."""
-        draw = random.Random(2)
-        for start, step, count in grids():
-            largest, lit = draw.choice((1, 20, 1_000, FULL, FULL)), draw.choice((3, count))
-            samples = [0] * count
-            for place in draw.sample(range(count), lit):
-                samples[place] = draw.randint(0, largest)
-            yield start, step, samples
-
     def assert_ends(self, *given):
         scotopic, photopic = light.scotopic(*given), light.photopic(*given)
         self.assertEqual(light.mesopic(0, *given), scotopic)
@@ -365,7 +505,7 @@ class MesopicEnds(unittest.TestCase):
 
     def test_accepted(self):
         lit = 0
-        for spectrum in self.spectra():
+        for spectrum in spectra():
             scotopic, photopic = self.assert_ends(*spectrum)
             lit += scotopic > 10_000 and photopic > 10_000 and scotopic != photopic
         # Bright enough to tell the two apart, and from any other factor.
@@ -378,7 +518,7 @@ class MesopicEnds(unittest.TestCase):
 
     def test_refused(self):
         draw = random.Random(8)
-        for start, step, samples in self.spectra():
+        for start, step, samples in spectra():
             faults = draw.sample((1, 2, 3, 4), draw.randint(1, 4))
             place = 0
             if 1 in faults:
@@ -482,6 +622,31 @@ class Dark(unittest.TestCase):
             samples[unfelt] = 1
             self.assert_dark(False, start, step, samples)
 
+    def test_u_and_v_and_the_chart_are_dark_where_x_and_y_are(self):
+        draw = random.Random(9)
+        found = {True: 0, False: 0}
+        for start, step, count in grids((300, 327, 350, 359, 360, 380)):
+            samples, unfelt = lit_below_360(start, step, count)
+            if draw.randrange(2):
+                samples[draw.randrange(unfelt, count)] = 1
+            row = start, step, samples
+            for observer in OBSERVERS:
+                dark = light.xy(observer, *row) == Refused(9)
+                self.assertEqual(light.uv(observer, *row) == Refused(9), dark)
+                self.assertEqual(light.chart(observer, *row) == "dark", dark)
+                for illuminant in ILLUMINANTS:
+                    setting = observer, illuminant
+                    self.assertEqual(light.panel_xy(*setting, *row) == Refused(9), dark)
+                    self.assertEqual(light.panel_uv(*setting, *row) == Refused(9), dark)
+                    self.assertEqual(light.panel_chart(*setting, *row) == "dark", dark)
+            found[dark] += 1
+        self.assertGreater(min(found.values()), 10)
+
+    def test_a_lone_1_is_dark_exactly_below_360(self):
+        for wavelength, reading in product(range(300, 831), colour_readings().values()):
+            answer = reading(300, 1, lone(1, wavelength, start=300, last=830))
+            self.assertEqual(answer == Refused(9), wavelength < 360)
+
     def test_a_lone_last_sample_on_any_grid(self):
         for start, step, count in grids():
             self.assert_dark(False, start, step, [0] * (count - 1) + [1])
@@ -499,6 +664,17 @@ class Mixing(unittest.TestCase):
             for row in (one, other):
                 for place in (0, *draw.sample(range(1, count - 1), lit), count - 1):
                     row[place] = draw.randint(1, largest)
+            yield start, step, (one, other, list(map(add, one, other)))
+
+    def extremes(self):
+        """Likewise, with samples that are none, the least or the most, so that some are dark."""
+        draw = random.Random(10)
+        shares = (0, 0), (0, 1), (1, 0), (0, FULL), (FULL, 0), (1, FULL - 1), (FULL - 1, 1)
+        for (start, step, count), lit in product(grids((300, 355, 361, 380)), (1, 2, 40)):
+            mixed = [(0, 0)] * count
+            for place in draw.sample(range(count), lit):
+                mixed[place] = draw.choice(shares)
+            one, other = map(list, zip(*mixed))
             yield start, step, (one, other, list(map(add, one, other)))
 
     def amounts(self, *given):
@@ -519,19 +695,29 @@ class Mixing(unittest.TestCase):
                 self.assertLessEqual(abs(mixed - (a + b)), 1)
                 self.assertLessEqual(max(a, b), mixed)
 
+    def assert_between(self, reading, start, step, rows):
+        """Each coordinate lies between those of the two lights, or is that of the lit one."""
+        *colours, mixed = (reading(start, step, row) for row in rows)
+        lit = [colour for colour in colours if colour != Refused(9)]
+        if not lit:
+            self.assertEqual(mixed, Refused(9))
+            return
+        for ends, coordinate in zip(zip(*lit, strict=True), mixed, strict=True):
+            self.assertLessEqual(min(ends), coordinate)
+            self.assertLessEqual(coordinate, max(ends))
+
     def test_each_coordinate_lies_between_the_two(self):
-        for (start, step, rows), observer in product(self.pairs(), OBSERVERS):
-            colours = (light.xy(observer, start, step, row) for row in rows)
-            for a, b, mixed in zip(*colours, strict=True):
-                self.assertLessEqual(min(a, b), mixed)
-                self.assertLessEqual(mixed, max(a, b))
+        for pairs in (self.pairs(), self.extremes()):
+            for mixing, reading in product(pairs, colour_readings().values()):
+                self.assert_between(reading, *mixing)
 
     def test_a_dark_light_leaves_the_coordinates_of_the_other(self):
-        for (start, step, (one, *_)), observer in product(self.pairs(), OBSERVERS):
+        readings = colour_readings().values()
+        for (start, step, (one, *_)), reading in product(self.pairs(), readings):
             dark, _ = lit_below_360(start, step, len(one))
             mixture = list(map(add, one, dark))
-            colour = light.xy(observer, start, step, one)
-            self.assertEqual(light.xy(observer, start, step, mixture), colour)
+            colour = reading(start, step, one)
+            self.assertEqual(reading(start, step, mixture), colour)
 
 
 class Panels(unittest.TestCase):
@@ -541,6 +727,20 @@ class Panels(unittest.TestCase):
         self.assertEqual(light.panel_xyz(2, 2, *white), (95047, 100000, 108883))
         self.assertEqual(light.panel_xyz(10, 1, *white)[1], 100000)
         self.assertEqual(light.panel_xyz(10, 2, *white)[1], 100000)
+
+    def test_u_and_v_of_full_white_on_any_grid(self):
+        white = {
+            (2, 1): (25597, 52429),
+            (2, 2): (19784, 46834),
+            (10, 1): (25896, 52425),
+            (10, 2): (19786, 46955),
+        }
+        for setting, expected in white.items():
+            # From 360 to 830, from 380 to 780 and others, in each step.
+            for start, step, count in grids((300, 355, 360, 361, 380)):
+                with self.subTest(start=start, step=step, count=count, setting=setting):
+                    colour = light.panel_uv(*setting, start, step, [10_000] * count)
+                    self.assertEqual(colour, expected)
 
     def test_the_white_sum_runs_over_360_to_830_whatever_the_panel(self):
         # A white sum over 380 to 780 alone would give 109851.
@@ -556,20 +756,26 @@ class Panels(unittest.TestCase):
                         self.assertEqual(grey[1], 10 * reflectance)
 
     def test_grey_has_the_colour_of_white(self):
-        for observer in (2, 10):
-            for illuminant in (1, 2):
-                white = light.panel_xy(observer, illuminant, 360, 1, panel(10_000))
-                self.assertEqual(light.panel_xy(observer, illuminant, 360, 1, panel(1)), white)
+        readings = light.panel_xy, light.panel_uv
+        for reading, *setting in product(readings, OBSERVERS, ILLUMINANTS):
+            white = reading(*setting, 360, 1, panel(10_000))
+            self.assertEqual(reading(*setting, 360, 1, panel(1)), white)
         self.assertEqual(light.panel_xy(2, 2, 360, 1, panel(1)), (31273, 32902))
 
     def test_chart(self):
-        expected = (31273 / 100000.0, 32902 / 100000.0)
+        expected = 31273 / 100000.0, 32902 / 100000.0, 19784 / 100000.0, 46834 / 100000.0
         self.assertEqual(light.panel_chart(2, 2, 360, 1, panel(10_000)), expected)
+        for setting in product(OBSERVERS, ILLUMINANTS):
+            given = *setting, 360, 1, panel(10_000)
+            colour = light.panel_xy(*given) + light.panel_uv(*given)
+            expected = tuple(float(each) / 100000.0 for each in colour)
+            self.assertEqual(light.panel_chart(*given), expected)
 
     def test_black(self):
         black = 360, 1, panel(0)
         self.assertEqual(light.panel_xyz(2, 1, *black), (0, 0, 0))
         self.assertEqual(light.panel_xy(2, 1, *black), Refused(9))
+        self.assertEqual(light.panel_uv(2, 1, *black), Refused(9))
         self.assertEqual(light.panel_chart(2, 1, *black), "dark")
 
 
@@ -662,6 +868,26 @@ class Greatest(unittest.TestCase):
         self.assertEqual(light.xyz(2, *full), (72_989_293, 72_983_452, 73_007_585))
         self.assertEqual(light.xyz(10, *full), (79_741_014, 79_750_145, 79_758_419))
 
+    def test_the_greatest_u_and_v_are_those_of_lone_wavelengths(self):
+        # Any light is a mixture of these, and its coordinates lie between theirs.
+        greatest = {2: (62_337, 58_676), 10: (58_626, 58_567)}
+        for observer, (greatest_u, greatest_v) in greatest.items():
+            rows = (lone(1, wavelength, start=360, last=830) for wavelength in range(360, 831))
+            u, v = zip(*(light.uv(observer, 360, 1, row) for row in rows))
+            self.assertEqual((max(u), max(v)), (greatest_u, greatest_v))
+            for spectrum in lit_spectra((300, 360, 380)):
+                u, v = light.uv(observer, *spectrum)
+                self.assertLessEqual(u, greatest_u)
+                self.assertLessEqual(v, greatest_v)
+
+    def test_v_is_never_above_60000(self):
+        # 9Y over 15Y and more, whatever the tables.
+        draw = random.Random(11)
+        for _ in range(200):
+            sums = [draw.choice((0, 1, draw.randrange(10**30))) for _ in range(3)]
+            if any(sums):
+                self.assertLessEqual(light.uv_from(*sums)[1], 60_000)
+
     def test_the_largest_of_all_is_below_2_to_the_32(self):
         largest = max(
             greatest_illuminance(PHOTOPIC, light.V),
@@ -682,6 +908,12 @@ class Greatest(unittest.TestCase):
         full = 360, 1, [FULL] * 471
         for k in range(1001):
             self.assertLessEqual(light.mesopic(k, *full), light.mesopic(0, *full))
+
+
+def sets_in_order(*faults):
+    """Each one of them, each two, and so on to all, every set in the order given."""
+    for size in range(1, len(faults) + 1):
+        yield from combinations(faults, size)
 
 
 class Refusals(unittest.TestCase):
@@ -722,15 +954,15 @@ class Refusals(unittest.TestCase):
         for k in (1001, 4_294_967_295):
             self.assertEqual(light.mesopic(k, *bad), Refused(5))
         for observer in (0, 1, 3, 4_294_967_295):
-            for reading in (light.xyz, light.xy, light.chart):
+            for reading in (light.xyz, light.xy, light.uv, light.chart):
                 self.assertEqual(reading(observer, *bad), Refused(6))
                 self.assertEqual(reading(observer, 380, 1, [0] * 401), Refused(6))
 
     def test_a_faulty_sample_comes_before_dark(self):
         # At 300 nm it carries no weight, so the rest is dark.
         samples = lone(TOO_LARGE, 300, start=300)
-        self.assertEqual(light.xy(2, 300, 1, samples), Refused(4, 0))
-        self.assertEqual(light.chart(2, 300, 1, samples), Refused(4, 0))
+        for reading in (light.xy, light.uv, light.chart):
+            self.assertEqual(reading(2, 300, 1, samples), Refused(4, 0))
 
     def test_panel_in_order(self):
         faulty = panel(1)
@@ -752,9 +984,45 @@ class Refusals(unittest.TestCase):
             ((10, 2, 300, 1, [10_001] + [0] * 480), Refused(8, 0)),
         ]
         for given, refused in cases:
-            for reading in (light.panel_xyz, light.panel_xy, light.panel_chart):
+            for reading in (light.panel_xyz, light.panel_xy, light.panel_uv, light.panel_chart):
                 with self.subTest(reading.__name__, refused=refused):
                     self.assertEqual(reading(*given), refused)
+
+    def faulty(self, faults, too_large):
+        """Start, step and row with these of the faults 1, 2, 3, 4 or 8 and 9, and no other."""
+        start, step, row = 300, 1, [0 if 9 in faults else 1] * 501
+        if 1 in faults:
+            step, row = 3, row[::3]  # the last wavelength is still in range
+        if 2 in faults:
+            start = 299
+        if 3 in faults:
+            row = row[:100]
+        if 4 in faults or 8 in faults:
+            row[7] = too_large  # below 360, so a dark row stays dark
+        return start, step, row
+
+    def assert_colour_refused(self, faults, given, xy, uv, chart):
+        """The first fault is the one that is answered, u' and v' alike with x and y."""
+        refused = Refused(faults[0], 7 if faults[0] in (4, 8) else 0)
+        with self.subTest(faults=faults):
+            self.assertEqual(xy(*given), refused)
+            self.assertEqual(uv(*given), refused)
+            self.assertEqual(chart(*given), "dark" if refused == Refused(9) else refused)
+
+    def test_any_faults_of_a_light_whose_colour_is_asked(self):
+        self.assertNotIsInstance(light.uv(2, *self.faulty((), TOO_LARGE)), Refused)
+        for faults in sets_in_order(6, 1, 2, 3, 4, 9):
+            observer = 3 if 6 in faults else 2
+            given = observer, *self.faulty(faults, TOO_LARGE)
+            self.assert_colour_refused(faults, given, light.xy, light.uv, light.chart)
+
+    def test_any_faults_of_a_panel_whose_colour_is_asked(self):
+        self.assertNotIsInstance(light.panel_uv(2, 1, *self.faulty((), 10_001)), Refused)
+        readings = light.panel_xy, light.panel_uv, light.panel_chart
+        for faults in sets_in_order(6, 7, 1, 2, 3, 8, 9):
+            observer, illuminant = 3 if 6 in faults else 2, 3 if 7 in faults else 1
+            given = observer, illuminant, *self.faulty(faults, 10_001)
+            self.assert_colour_refused(faults, given, *readings)
 
 
 def packed(samples, edition=1, code=0, start=380, count=401, reserved=0, padding=0, behind=b""):

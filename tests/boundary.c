@@ -28,8 +28,11 @@ static void lights(void) {
     expect("qr_xyz", xyz.number == 0 && xyz.x == 198617 && xyz.y == 40980 && xyz.z == 1140066);
     qr_xy_answer xy = qr_xy(2, 380, 1, samples, 401);
     expect("qr_xy", xy.number == 0 && xy.x == 14396 && xy.y == 2970);
+    qr_uv_answer uv = qr_uv(2, 380, 1, samples, 401);
+    expect("qr_uv", uv.number == 0 && uv.place == 0 && uv.u == 18766 && uv.v == 8712);
     qr_chart_answer chart = qr_chart(2, 380, 1, samples, 401);
-    expect("qr_chart", chart.number == 0 && chart.place == 0 && chart.x == 14396 / 100000.0 && chart.y == 2970 / 100000.0);
+    expect("qr_chart", chart.number == 0 && chart.place == 0 && chart.x == 14396 / 100000.0 && chart.y == 2970 / 100000.0 &&
+                           chart.u == 18766 / 100000.0 && chart.v == 8712 / 100000.0);
     qr_figures_answer f = qr_figures(380, 1, samples, 401);
     expect("qr_figures", f.number == 0 && f.photopic == 40980 && f.scotopic == 963972 && f.X == 198617 && f.Y == 40980 &&
                              f.Z == 1140066 && f.xy_number == 0 && f.x == 14396 && f.y == 2970);
@@ -42,8 +45,11 @@ static void panels(void) {
     expect("a white panel from 380 to 780", xyz.number == 0 && xyz.x == 109850 && xyz.y == 100000 && xyz.z == 35585);
     qr_xy_answer xy = qr_panel_xy(2, 2, 360, 1, white, 471);
     expect("qr_panel_xy", xy.number == 0 && xy.x == 31273 && xy.y == 32902);
+    qr_uv_answer uv = qr_panel_uv(2, 2, 360, 1, white, 471);
+    expect("qr_panel_uv", uv.number == 0 && uv.place == 0 && uv.u == 19784 && uv.v == 46834);
     qr_chart_answer chart = qr_panel_chart(2, 2, 360, 1, white, 471);
-    expect("qr_panel_chart", chart.number == 0 && chart.place == 0 && chart.x == 31273 / 100000.0 && chart.y == 32902 / 100000.0);
+    expect("qr_panel_chart", chart.number == 0 && chart.place == 0 && chart.x == 31273 / 100000.0 && chart.y == 32902 / 100000.0 &&
+                                 chart.u == 19784 / 100000.0 && chart.v == 46834 / 100000.0);
     qr_panel_figures_answer f = qr_panel_figures(2, 2, 360, 1, white, 471);
     expect("qr_panel_figures", f.number == 0 && f.place == 0 && f.X == 95047 && f.Y == 100000 && f.Z == 108883 &&
                                    f.xy_number == 0 && f.x == 31273 && f.y == 32902);
@@ -81,14 +87,19 @@ static void refusals(void) {
     expect("COUNT", qr_figures(380, 1, samples, 400).number == QR_COUNT);
     samples[80] = 0;
     expect("DARK", qr_xy(2, 380, 1, samples, 401).number == QR_DARK);
+    qr_uv_answer no_uv = qr_uv(2, 380, 1, samples, 401);
+    expect("dark u' and v'", no_uv.number == QR_DARK && no_uv.place == 0 && no_uv.u == 0 && no_uv.v == 0);
     qr_chart_answer dark = qr_chart(2, 380, 1, samples, 401);
-    expect("a dark chart", dark.number == QR_DARK && dark.place == 0 && dark.x == 0.0 && dark.y == 0.0);
+    expect("a dark chart", dark.number == QR_DARK && dark.place == 0 && dark.x == 0.0 && dark.y == 0.0 && dark.u == 0.0 &&
+                               dark.v == 0.0);
     qr_figures_answer unlit = qr_figures(380, 1, samples, 401);
     expect("dark figures", unlit.number == 0 && unlit.xy_number == QR_DARK && unlit.x == 0 && unlit.y == 0);
     expect("ILLUMINANT", qr_panel_xyz(2, 3, 360, 1, white, 471).number == QR_ILLUMINANT);
     white[470] = 10001;
     qr_xy_answer panel = qr_panel_xy(2, 1, 360, 1, white, 471);
     expect("REFLECTANCE", panel.number == QR_REFLECTANCE && panel.place == 470);
+    no_uv = qr_panel_uv(2, 1, 360, 1, white, 471);
+    expect("REFLECTANCE of u' and v'", no_uv.number == QR_REFLECTANCE && no_uv.place == 470 && no_uv.u == 0 && no_uv.v == 0);
     qr_panel_figures_answer f = qr_panel_figures(2, 1, 360, 1, white, 471);
     expect("REFLECTANCE of figures", f.number == QR_REFLECTANCE && f.place == 470 && f.X == 0 && f.Y == 0 && f.Z == 0 &&
                                          f.xy_number == 0 && f.x == 0 && f.y == 0);

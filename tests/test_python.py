@@ -80,7 +80,11 @@ class Lights(Case):
         self.assertEqual(quailribbon.xyz(2, 380, 1, example()), (198617, 40980, 1140066))
         self.assertEqual(quailribbon.xy(2, 380, 1, example()), (14396, 2970))
         self.assertEqual(quailribbon.xy(10, 380, 1, example()), (13892, 5892))
-        self.assertEqual(quailribbon.chart(2, 380, 1, example()), (14396 / 100000, 2970 / 100000))
+        self.assertEqual(quailribbon.uv(2, 380, 1, example()), (18766, 8712))
+        self.assertEqual(quailribbon.uv(10, 380, 1, example()), (16205, 15464))
+        point = quailribbon.chart(2, 380, 1, example())
+        self.assertEqual(point, (14396 / 100000, 2970 / 100000, 18766 / 100000, 8712 / 100000))
+        self.assertEqual((point.y, point.u, point.v), (0.0297, 0.18766, 0.08712))
 
     def test_figures(self):
         figures = quailribbon.figures(380, 1, example())
@@ -98,7 +102,11 @@ class Panels(Case):
         for step in (1, 2, 5, 10):
             narrow = WHITE[: 400 // step + 1]
             self.assertEqual(quailribbon.panel_xyz(2, 1, 380, step, narrow), (109850, 100000, 35585))
-        self.assertEqual(quailribbon.panel_chart(2, 2, 360, 1, WHITE), (31273 / 100000, 32902 / 100000))
+        whites = ((2, 1, 25597, 52429), (2, 2, 19784, 46834), (10, 1, 25896, 52425), (10, 2, 19786, 46955))
+        for observer, illuminant, u, v in whites:
+            self.assertEqual(quailribbon.panel_uv(observer, illuminant, 360, 1, WHITE), (u, v))
+        point = quailribbon.panel_chart(2, 2, 360, 1, WHITE)
+        self.assertEqual(point, (31273 / 100000, 32902 / 100000, 19784 / 100000, 46834 / 100000))
 
     def test_figures(self):
         figures = quailribbon.panel_figures(2, 2, 360, 1, WHITE)
@@ -166,28 +174,33 @@ class Refusals(Case):
         self.assertRefused(3, quailribbon.panel_xyz, 2, 1, 360, 1, [0] * 472)
 
     def test_sample(self):
-        self.assertRefused(4, quailribbon.photopic, 380, 1, changed(DARK, 7, 1_000_001), place=7)
+        for call, settings in ((quailribbon.photopic, ()), (quailribbon.uv, (2,))):
+            self.assertRefused(4, call, *settings, 380, 1, changed(DARK, 7, 1_000_001), place=7)
 
     def test_mesopic(self):
         self.assertRefused(5, quailribbon.mesopic, 1001, 380, 1, example())
 
     def test_observer(self):
         self.assertRefused(6, quailribbon.xyz, 3, 380, 1, example())
+        self.assertRefused(6, quailribbon.uv, 3, 380, 3, example())
         self.assertRefused(6, quailribbon.panel_xy, 0, 3, 360, 1, WHITE)
         self.assertRefused(6, quailribbon.panel_figures, 3, 3, 360, 1, WHITE)
 
     def test_illuminant(self):
-        self.assertRefused(7, quailribbon.panel_chart, 2, 3, 360, 1, WHITE)
+        for call in (quailribbon.panel_chart, quailribbon.panel_uv):
+            self.assertRefused(7, call, 2, 3, 360, 1, WHITE)
 
     def test_reflectance(self):
-        for call in (quailribbon.panel_xyz, quailribbon.panel_figures):
+        for call in (quailribbon.panel_xyz, quailribbon.panel_uv, quailribbon.panel_figures):
             self.assertRefused(8, call, 2, 1, 360, 1, changed(WHITE, 470, 10_001), place=470)
 
     def test_dark(self):
-        self.assertRefused(9, quailribbon.xy, 2, 380, 1, DARK)
-        self.assertRefused(9, quailribbon.chart, 10, 380, 1, DARK)
-        self.assertRefused(9, quailribbon.panel_xy, 2, 1, 360, 1, BLACK)
-        self.assertRefused(9, quailribbon.panel_chart, 10, 2, 360, 1, BLACK)
+        for call in (quailribbon.xy, quailribbon.uv, quailribbon.chart):
+            self.assertRefused(9, call, 2, 380, 1, DARK)
+            self.assertRefused(9, call, 10, 380, 1, DARK)
+        for call in (quailribbon.panel_xy, quailribbon.panel_uv, quailribbon.panel_chart):
+            self.assertRefused(9, call, 2, 1, 360, 1, BLACK)
+            self.assertRefused(9, call, 10, 2, 360, 1, BLACK)
 
     def test_records(self):
         record = bytearray(quailribbon.write_record(380, 1, example()))
@@ -520,7 +533,7 @@ class Package(Case):
 class Hints(Case):
     def test_everything_public_has_them(self):
         functions = [getattr(quailribbon, name) for name in quailribbon.__all__ if name.islower()]
-        self.assertEqual(len(functions), 15)
+        self.assertEqual(len(functions), 17)
         for function in functions:
             with self.subTest(function.__name__):
                 arguments = function.__code__.co_varnames[: function.__code__.co_argcount]

@@ -45,6 +45,7 @@ __all__ = [
     "Record",
     "Refused",
     "Row",
+    "Uv",
     "Xy",
     "Xyz",
     "chart",
@@ -52,6 +53,7 @@ __all__ = [
     "mesopic",
     "panel_chart",
     "panel_figures",
+    "panel_uv",
     "panel_xy",
     "panel_xyz",
     "photopic",
@@ -59,6 +61,7 @@ __all__ = [
     "read_record",
     "report",
     "scotopic",
+    "uv",
     "write_record",
     "xy",
     "xyz",
@@ -121,11 +124,20 @@ class Xy(NamedTuple):
     y: int
 
 
+class Uv(NamedTuple):
+    """u′ and v′ in hundred-thousandths."""
+
+    u: int
+    v: int
+
+
 class ChartPoint(NamedTuple):
-    """x and y as floats."""
+    """x, y, u′ and v′ as floats."""
 
     x: float
     y: float
+    u: float
+    v: float
 
 
 class Figures(NamedTuple):
@@ -210,10 +222,16 @@ def xy(observer: SupportsIndex, start: SupportsIndex, step: SupportsIndex, sampl
     return Xy(answer.x, answer.y)
 
 
+def uv(observer: SupportsIndex, start: SupportsIndex, step: SupportsIndex, samples: Row) -> Uv:
+    """u′ and v′ in hundred-thousandths, for observer 2 or 10; `Refused` with number 9 where its three sums are 0."""
+    answer = _seen_light(_c.uv, observer, start, step, samples)
+    return Uv(answer.u, answer.v)
+
+
 def chart(observer: SupportsIndex, start: SupportsIndex, step: SupportsIndex, samples: Row) -> ChartPoint:
     """The chart's point, for observer 2 or 10; `Refused` with number 9 where its three sums are 0."""
     answer = _seen_light(_c.chart, observer, start, step, samples)
-    return ChartPoint(answer.x, answer.y)
+    return ChartPoint(answer.x, answer.y, answer.u, answer.v)
 
 
 def panel_xyz(
@@ -232,12 +250,20 @@ def panel_xy(
     return Xy(answer.x, answer.y)
 
 
+def panel_uv(
+    observer: SupportsIndex, illuminant: SupportsIndex, start: SupportsIndex, step: SupportsIndex, reflectances: Row
+) -> Uv:
+    """A panel's u′ and v′ in hundred-thousandths; `Refused` with number 9 where its three sums are 0."""
+    answer = _panel(_c.panel_uv, observer, illuminant, start, step, reflectances)
+    return Uv(answer.u, answer.v)
+
+
 def panel_chart(
     observer: SupportsIndex, illuminant: SupportsIndex, start: SupportsIndex, step: SupportsIndex, reflectances: Row
 ) -> ChartPoint:
     """A panel's point on the chart; `Refused` with number 9 where its three sums are 0."""
     answer = _panel(_c.panel_chart, observer, illuminant, start, step, reflectances)
-    return ChartPoint(answer.x, answer.y)
+    return ChartPoint(answer.x, answer.y, answer.u, answer.v)
 
 
 def _colour(answer):

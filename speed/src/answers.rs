@@ -36,19 +36,30 @@ pub struct XyAnswer {
 }
 
 #[repr(C)]
+#[derive(Clone, Copy, Debug, Default, PartialEq)]
+pub struct UvAnswer {
+    pub number: u32,
+    pub place: u32,
+    pub u: u32,
+    pub v: u32,
+}
+
+#[repr(C)]
 #[derive(Clone, Copy, Debug, Default)]
 pub struct ChartAnswer {
     pub number: u32,
     pub place: u32,
     pub x: f64,
     pub y: f64,
+    pub u: f64,
+    pub v: f64,
 }
 
 /// Floats are compared by bits, so that 0.0 isn't -0.0.
 impl PartialEq for ChartAnswer {
     fn eq(&self, other: &Self) -> bool {
         let whole = |answer: &Self| (answer.number, answer.place);
-        let bits = |answer: &Self| (answer.x.to_bits(), answer.y.to_bits());
+        let bits = |answer: &Self| [answer.x, answer.y, answer.u, answer.v].map(f64::to_bits);
         whole(self) == whole(other) && bits(self) == bits(other)
     }
 }
@@ -117,6 +128,7 @@ answers!(
     Reading,
     XyzAnswer,
     XyAnswer,
+    UvAnswer,
     ChartAnswer,
     RecordAnswer,
     Written,

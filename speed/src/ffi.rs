@@ -31,6 +31,13 @@ mod c {
             samples: *const u32,
             count: usize,
         ) -> XyAnswer;
+        pub fn qr_uv(
+            observer: u32,
+            start: u32,
+            step: u32,
+            samples: *const u32,
+            count: usize,
+        ) -> UvAnswer;
         pub fn qr_chart(
             observer: u32,
             start: u32,
@@ -54,6 +61,14 @@ mod c {
             reflectances: *const u16,
             count: usize,
         ) -> XyAnswer;
+        pub fn qr_panel_uv(
+            observer: u32,
+            illuminant: u32,
+            start: u32,
+            step: u32,
+            reflectances: *const u16,
+            count: usize,
+        ) -> UvAnswer;
         pub fn qr_panel_chart(
             observer: u32,
             illuminant: u32,
@@ -121,6 +136,10 @@ pub fn xy(observer: u32, start: u32, step: u32, samples: &[u32]) -> XyAnswer {
     unsafe { c::qr_xy(observer, start, step, samples.as_ptr(), samples.len()) }
 }
 
+pub fn uv(observer: u32, start: u32, step: u32, samples: &[u32]) -> UvAnswer {
+    unsafe { c::qr_uv(observer, start, step, samples.as_ptr(), samples.len()) }
+}
+
 pub fn chart(observer: u32, start: u32, step: u32, samples: &[u32]) -> ChartAnswer {
     unsafe { c::qr_chart(observer, start, step, samples.as_ptr(), samples.len()) }
 }
@@ -145,6 +164,17 @@ pub fn panel_xy(
 ) -> XyAnswer {
     let (row, count) = (reflectances.as_ptr(), reflectances.len());
     unsafe { c::qr_panel_xy(observer, illuminant, start, step, row, count) }
+}
+
+pub fn panel_uv(
+    observer: u32,
+    illuminant: u32,
+    start: u32,
+    step: u32,
+    reflectances: &[u16],
+) -> UvAnswer {
+    let (row, count) = (reflectances.as_ptr(), reflectances.len());
+    unsafe { c::qr_panel_uv(observer, illuminant, start, step, row, count) }
 }
 
 pub fn panel_chart(

@@ -20,6 +20,11 @@ fn chromaticity_of(lit: &[(usize, u32)]) -> (u32, u32) {
     (answer.x, answer.y)
 }
 
+fn uniform_of(lit: &[(usize, u32)]) -> (u32, u32) {
+    let answer = uv(2, 380, 1, &light(lit));
+    (answer.u, answer.v)
+}
+
 #[test]
 fn p1_all_zero() {
     let dark = light(&[]);
@@ -30,8 +35,10 @@ fn p1_all_zero() {
     let answer = xyz(2, 380, 1, &dark);
     assert_eq!((answer.number, answer.x, answer.y, answer.z), (0, 0, 0, 0));
     assert_eq!(xy(2, 380, 1, &dark).number, 9);
+    assert_eq!(uv(2, 380, 1, &dark).number, 9);
     let answer = chart(2, 380, 1, &dark);
     assert_eq!((answer.number, answer.x, answer.y), (9, 0.0, 0.0));
+    assert_eq!((answer.u, answer.v), (0.0, 0.0));
 }
 
 #[test]
@@ -45,7 +52,9 @@ fn p2_the_report() {
     let page =
         "photopic 40980\nscotopic 963972\nX 198617\nY 40980\nZ 1140066\nx 0.14396\ny 0.02970\n";
     assert_eq!(text[..length], *page.as_bytes());
-    assert_eq!(chart(2, 380, 1, &light(&[(460, 1)])).x, 14396.0 / 100000.0);
+    let point = chart(2, 380, 1, &light(&[(460, 1)]));
+    assert_eq!(point.x, 14396.0 / 100000.0);
+    assert_eq!((point.u, point.v), (18766.0 / 100000.0, 8712.0 / 100000.0));
 }
 
 #[test]
@@ -94,6 +103,7 @@ fn p6_p7_p8_mixtures() {
     let both = [(460, 1_000_000), (485, 1_000_000)];
     assert_eq!(photopic_of(&both), 156612);
     assert_eq!(chromaticity_of(&both), (12179, 8008));
+    assert_eq!(uniform_of(&both), (13105, 19388));
     assert_eq!(photopic_of(&[(460, 50_000)]), 2049);
 }
 
@@ -109,6 +119,18 @@ fn p9_white_panels() {
     let figures = panel_figures(2, 2, 360, 1, &white);
     assert_eq!([figures.X, figures.Y, figures.Z], of(2));
     assert_eq!([figures.xy_number, figures.x, figures.y], [0, 31273, 32902]);
+    let uniform = |observer, illuminant| {
+        let answer = panel_uv(observer, illuminant, 360, 1, &white);
+        [answer.u, answer.v]
+    };
+    assert_eq!(
+        [uniform(2, 1), uniform(2, 2)],
+        [[25597, 52429], [19784, 46834]]
+    );
+    assert_eq!(
+        [uniform(10, 1), uniform(10, 2)],
+        [[25896, 52425], [19786, 46955]]
+    );
 }
 
 #[test]

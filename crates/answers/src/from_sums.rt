@@ -1,13 +1,15 @@
 // What is answered from the three sums of a row that is checked first: a light's or a panel's.
 use crate::ChartAnswer;
+use crate::UvAnswer;
 use crate::XyAnswer;
 use crate::chart::chart_from;
+use crate::ucs::uv_from;
 use crate::work::xy_from;
 use curves::weigh::Sums;
 use grid::Refusal;
 ghost use mathlib.Core.Path.{_≡_};
-ghost use Rattle.answers.specs.Worked.{xyFrom, chartFrom};
-ghost use Rattle.answers.specs.FromSums.{ShortTotal, fromSums};
+ghost use Rattle.answers.specs.Worked.{xyFrom, uvFrom, chartFrom};
+ghost use Rattle.answers.specs.FromSums.{ShortDivisors, fromSums};
 
 pub enum SumsAnswer {
     Given(Sums),
@@ -16,7 +18,7 @@ pub enum SumsAnswer {
 
 // x and y in hundred-thousandths.
 pub fn xy_summed(answer: SumsAnswer) -> XyAnswer
-    requires { ⌜ ShortTotal answer ⌝ }
+    requires { ⌜ ShortDivisors answer ⌝ }
     ensures { λ r. ⌜ r ≡ fromSums XyAnswer.Refused xyFrom answer ⌝ }
 {
     match answer {
@@ -25,9 +27,20 @@ pub fn xy_summed(answer: SumsAnswer) -> XyAnswer
     }
 }
 
+// u′ and v′ in hundred-thousandths.
+pub fn uv_summed(answer: SumsAnswer) -> UvAnswer
+    requires { ⌜ ShortDivisors answer ⌝ }
+    ensures { λ r. ⌜ r ≡ fromSums UvAnswer.Refused uvFrom answer ⌝ }
+{
+    match answer {
+        SumsAnswer::Given(sums) => uv_from(sums),
+        SumsAnswer::Refused(refusal) => UvAnswer::Refused(refusal),
+    }
+}
+
 // The chart's point, or dark.
 pub fn chart_summed(answer: SumsAnswer) -> ChartAnswer
-    requires { ⌜ ShortTotal answer ⌝ }
+    requires { ⌜ ShortDivisors answer ⌝ }
     ensures { λ r. ⌜ r ≡ fromSums ChartAnswer.Refused (λ x y z. ChartAnswer.Given (chartFrom x y z)) answer ⌝ }
 {
     match answer {

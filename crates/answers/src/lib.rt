@@ -1,6 +1,8 @@
 // The answers of readings and panels, each a value or a refusal.
 mod chart;
+mod coordinate;
 pub mod from_sums;
+mod ucs;
 pub mod work;
 
 use grid::Refusal;
@@ -32,9 +34,23 @@ pub enum XyAnswer {
     Refused(Refusal),
 }
 
+// u′ and v′ in hundred-thousandths.
+pub struct Uv {
+    pub u: u32,
+    pub v: u32,
+}
+
+pub enum UvAnswer {
+    Value(Uv),
+    Refused(Refusal),
+}
+
+// x, y, u′ and v′.
 pub struct ChartPoint {
     pub x: f64,
     pub y: f64,
+    pub u: f64,
+    pub v: f64,
 }
 
 // Where a light or a panel stands on the chart; a dark one has no place there.

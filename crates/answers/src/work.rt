@@ -1,7 +1,8 @@
-// What is worked from exact sums: X, Y, Z and coordinates. Each divides once, at the end.
+// What is worked from exact sums: X, Y, Z, and x and y. Each divides once, at the end.
 use crate::Xy;
 use crate::XyAnswer;
 use crate::Xyz;
+use crate::coordinate::coordinate;
 use curves::weigh::Sums;
 use exact::digits::Short;
 use exact::digits::short_times_plus;
@@ -10,8 +11,7 @@ use exact::divide::nearest;
 use grid::Refusal;
 use grid::refusals::DARK;
 ghost use mathlib.Core.Path.{_≡_};
-ghost use Prim.Native.Nat.{_+_, _*_, _^_, _≤_, _<_};
-ghost use Rattle.mixing.specs.Nearest.{nearest as nearestOf};
+ghost use Prim.Native.Nat.{_+_, _*_, _^_, _<_};
 ghost use Rattle.exact.specs.Value.{short};
 ghost use Rattle.answers.specs.Worked.{xyzFrom, xyFrom};
 ghost use Rattle.answers.specs.FromSums.{XyzFit};
@@ -47,15 +47,7 @@ pub fn xy_from(sums: Sums) -> XyAnswer
         });
     }
     XyAnswer::Value(Xy {
-        x: coordinate(sum_x, total),
-        y: coordinate(sum_y, total),
+        x: coordinate(100000, sum_x, total),
+        y: coordinate(100000, sum_y, total),
     })
-}
-
-// A coordinate in hundred-thousandths, of a part and its whole.
-fn coordinate(part: Short, total: Short) -> u32
-    requires { ⌜ (short part ≤ short total) × (0 < short total) ⌝ }
-    ensures { λ r. ⌜ r ≡ nearestOf (100000 * short part) (short total) ⌝ }
-{
-    nearest(100000, part, total)
 }

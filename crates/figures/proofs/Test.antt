@@ -13,11 +13,11 @@ use Rattle.mixing.specs.Mixture.{mix}
 use Rattle.tables.specs.Tables.{xBar, yBar, zBar, xBar10, yBar10, zBar10, vPrime, illuminantA, illuminantD65}
 use Rattle.tables.specs.Curves.{table, powers}
 use Rattle.spectrum.specs.Line.{lineAt, endRule, W, T as T′}
-use Rattle.answers.specs.Worked.{xyFrom}
+use Rattle.answers.specs.Worked.{xyFrom, uvFrom}
 use Rattle.panel.specs.Figures.{panelFiguresOf}
-use Rattle.panel.specs.Panel.{settingCheck, panelCheck, whiteSum, panelXyzOf, panelXyOf}
+use Rattle.panel.specs.Panel.{settingCheck, panelCheck, whiteSum, panelXyzOf, panelXyOf, panelUvOf}
 use Rattle.efficacy.specs.Efficacy.{atReference}
-use Rattle.readings.specs.Readings.{illuminanceOf, mesopicOf, xyzOf, xyOf}
+use Rattle.readings.specs.Readings.{illuminanceOf, mesopicOf, xyzOf, xyOf, uvOf}
 use Rattle.figures.specs.Asked.{answerOf}
 use Rattle.figures.specs.Rows.{Row, rows}
 use Rattle.figures.specs.Promises.{Holds}
@@ -92,5 +92,5 @@ holds (r ∷ rs) t = (
 
 -- the test, computed over the whole table
 pub passes : T (test rows)
-unfolding test isSame sameNumbers noFloats rows answerOf panelXyzOf panelXyOf panelFiguresOf panelCheck settingCheck whiteSum illuminanceOf mesopicOf xyzOf xyOf xyFrom lightCheck gridCheck limitCheck W weighted total T′ lineAt endRule atReference table powers xBar yBar zBar xBar10 yBar10 zBar10 vPrime illuminantA illuminantD65 nearest mix
+unfolding test isSame sameNumbers noFloats rows answerOf panelXyzOf panelXyOf panelUvOf panelFiguresOf panelCheck settingCheck whiteSum illuminanceOf mesopicOf xyzOf xyOf uvOf xyFrom uvFrom lightCheck gridCheck limitCheck W weighted total T′ lineAt endRule atReference table powers xBar yBar zBar xBar10 yBar10 zBar10 vPrime illuminantA illuminantD65 nearest mix
 passes = tt

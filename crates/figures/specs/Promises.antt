@@ -3,9 +3,9 @@ use mathlib.Core.Path.{_≡_}
 use mathlib.Core.List.{List, [], _∷_}
 use Prim.Native.Nat.{ℕ}
 use Rattle.grid.specs.Said.{value}
-use Rattle.figures.specs.Asked.{Asked, answerOf, photopic, xyz, xy}
+use Rattle.figures.specs.Asked.{Asked, answerOf, photopic, xyz, xy, uv}
 use Rattle.figures.specs.Rows.{Row, rows, lone, at460, fullLight}
-use Rattle.figures.specs.Slips.{xFromRounded, eachRounded, atSamples, dividedEarly, zFilled}
+use Rattle.figures.specs.Slips.{xFromRounded, uFromRounded, eachRounded, atSamples, dividedEarly, zFilled}
 
 -- each row is given as it says
 abbrev pub Holds : List Row → Type 0
@@ -27,6 +27,9 @@ pub record Slips : Type 0 where
   pub x-from-rounded :
       let said = answerOf (xyz 2 380 1 (at460 1)) in
       Apart (xFromRounded (value said 0) (value said 1) (value said 2)) 0 (xy 2 380 1 (at460 1)) 0 14396
+  pub u-from-rounded :
+      let said = answerOf (xy 2 380 1 (lone 401 274 1000000)) in
+      Apart (uFromRounded (value said 0) (value said 1)) 60529 (uv 2 380 1 (lone 401 274 1000000)) 0 60531
   pub each-rounded : Apart (eachRounded 360 1 fullLight) 72983448 (photopic 360 1 fullLight) 0 72983452
   pub at-samples : Apart (atSamples 380 5 (lone 81 16 1000000)) 204900 (photopic 380 5 (lone 81 16 1000000)) 0 205365
   pub divided-early : Apart (dividedEarly 380 5 (lone 81 35 1)) 1 (photopic 380 5 (lone 81 35 1)) 0 3

@@ -6,7 +6,7 @@ use lib.ListN.{replicate}
 use Rattle.mixing.specs.Mixture.{mix}
 use Rattle.grid.specs.Said.{Said, given, refusedWith}
 use Rattle.grid.specs.Check.{refusal}
-use Rattle.figures.specs.Asked.{Asked, photopic, scotopic, photopic10, mesopic, xyz, xy, panelXyz, panelXy, panelFigures}
+use Rattle.figures.specs.Asked.{Asked, photopic, scotopic, photopic10, mesopic, xyz, xy, uv, panelXyz, panelXy, panelUv, panelFigures}
 
 -- an input, and what it must give
 pub record Row : Type 0 where
@@ -54,11 +54,13 @@ rows =
     ∷ gives (mesopic 500 380 1 (replicate 401 0)) (0 ∷ [])
     ∷ gives (xyz 2 380 1 (replicate 401 0)) (0 ∷ 0 ∷ 0 ∷ [])
     ∷ refuses (xy 2 380 1 (replicate 401 0)) 9 0
+    ∷ refuses (uv 2 380 1 (replicate 401 0)) 9 0
     -- P2: 1,000,000 at 460
     ∷ gives (photopic 380 1 (at460 1000000)) (40980 ∷ [])
     ∷ gives (scotopic 380 1 (at460 1000000)) (963972 ∷ [])
     ∷ gives (xyz 2 380 1 (at460 1000000)) (198617 ∷ 40980 ∷ 1140066 ∷ [])
     ∷ gives (xy 2 380 1 (at460 1000000)) (14396 ∷ 2970 ∷ [])
+    ∷ gives (uv 2 380 1 (at460 1000000)) (18766 ∷ 8712 ∷ [])
     -- P3: just above 1024.5, and just below
     ∷ gives (photopic 380 1 (at460 25000)) (1025 ∷ [])
     ∷ gives (photopic 380 1 (at460 24999)) (1024 ∷ [])
@@ -76,6 +78,7 @@ rows =
     -- P7: P2 and P6 mixed
     ∷ gives (photopic 380 1 (mix (at460 1000000) (at485 1000000))) (156612 ∷ [])
     ∷ gives (xy 2 380 1 (mix (at460 1000000) (at485 1000000))) (12179 ∷ 8008 ∷ [])
+    ∷ gives (uv 2 380 1 (mix (at460 1000000) (at485 1000000))) (13105 ∷ 19388 ∷ [])
     -- P8: 25,000 at 460 mixed with itself
     ∷ gives (photopic 380 1 (mix (at460 25000) (at460 25000))) (2049 ∷ [])
     -- P9: a full white panel under A and under D65, with the published white points
@@ -105,6 +108,12 @@ rows =
     -- our own: a lone 1 at 460, whose X and Y round to 0
     ∷ gives (xyz 2 380 1 (at460 1)) (0 ∷ 0 ∷ 1 ∷ [])
     ∷ gives (xy 2 380 1 (at460 1)) (14396 ∷ 2970 ∷ [])
+    ∷ gives (uv 2 380 1 (at460 1)) (18766 ∷ 8712 ∷ [])
+    -- our own: u′ of exactly 1188.5, and v′ of exactly 51237.5 for observer 10; the greatest u′ and v′ for observer 2
+    ∷ gives (uv 2 380 1 (mix (lone 401 115 793) (lone 401 135 16))) (1189 ∷ 47383 ∷ [])
+    ∷ gives (uv 10 380 1 (mix (lone 401 297 1) (lone 401 349 30))) (58417 ∷ 51238 ∷ [])
+    ∷ gives (uv 2 380 1 (lone 401 320 1000000)) (62337 ∷ 50650 ∷ [])
+    ∷ gives (uv 2 380 1 (lone 401 151 1000000)) (5290 ∷ 58676 ∷ [])
     -- our own: a lone 1 at 555 at step 5, whose line would be lost if T were divided by s
     ∷ gives (photopic 380 5 (lone 81 35 1)) (3 ∷ [])
     -- our own: 1,000,000 at 700, where z̄ is empty
@@ -149,6 +158,11 @@ rows =
     ∷ gives (panelXyz 10 1 360 1 (replicate 471 10000)) (111144 ∷ 100000 ∷ 35200 ∷ [])
     ∷ gives (panelXyz 10 2 360 1 (replicate 471 10000)) (94811 ∷ 100000 ∷ 107305 ∷ [])
     ∷ gives (panelXy 2 2 360 1 (replicate 471 10000)) (31273 ∷ 32902 ∷ [])
+    -- our own: its u′ and v′, for both observers, under A and under D65
+    ∷ gives (panelUv 2 1 360 1 (replicate 471 10000)) (25597 ∷ 52429 ∷ [])
+    ∷ gives (panelUv 2 2 360 1 (replicate 471 10000)) (19784 ∷ 46834 ∷ [])
+    ∷ gives (panelUv 10 1 360 1 (replicate 471 10000)) (25896 ∷ 52425 ∷ [])
+    ∷ gives (panelUv 10 2 360 1 (replicate 471 10000)) (19786 ∷ 46955 ∷ [])
     -- our own: a white panel from 380 to 780 at each step, which has the full one's X, Y, Z, and a grey one of 1234
     ∷ gives (panelXyz 2 1 380 1 (replicate 401 10000)) (109850 ∷ 100000 ∷ 35585 ∷ [])
     ∷ gives (panelXyz 2 2 380 2 (replicate 201 10000)) (95047 ∷ 100000 ∷ 108883 ∷ [])
@@ -160,6 +174,17 @@ rows =
     ∷ refuses (panelXyz 2 3 360 1 (replicate 471 10000)) 7 0
     ∷ refuses (panelXyz 2 1 360 1 (lone 471 470 10001)) 8 470
     ∷ refuses (panelXy 2 1 360 1 (replicate 471 0)) 9 0
+    -- our own: the refusals of u′ and v′, each before the next, of a light and of a panel
+    ∷ refuses (uv 3 381 3 (lone 400 7 1000001)) 6 0
+    ∷ refuses (uv 2 381 3 (lone 400 7 1000001)) 1 0
+    ∷ refuses (uv 2 381 1 (lone 400 7 1000001)) 2 0
+    ∷ refuses (uv 2 380 1 (lone 400 7 1000001)) 3 0
+    ∷ refuses (uv 2 380 1 (lone 401 7 1000001)) 4 7
+    ∷ refuses (panelUv 3 3 381 3 (lone 400 7 10001)) 6 0
+    ∷ refuses (panelUv 2 3 381 3 (lone 400 7 10001)) 7 0
+    ∷ refuses (panelUv 2 1 381 3 (lone 400 7 10001)) 1 0
+    ∷ refuses (panelUv 2 1 360 1 (lone 471 470 10001)) 8 470
+    ∷ refuses (panelUv 2 1 360 1 (replicate 471 0)) 9 0
     -- our own: a panel's figures in one answer: white, dark and refused
     ∷ gives (panelFigures 2 2 360 1 (replicate 471 10000)) (95047 ∷ 100000 ∷ 108883 ∷ 0 ∷ 31273 ∷ 32902 ∷ [])
     ∷ gives (panelFigures 2 1 360 1 (replicate 471 0)) (0 ∷ 0 ∷ 0 ∷ 9 ∷ 0 ∷ 0 ∷ [])

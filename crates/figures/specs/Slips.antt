@@ -14,6 +14,10 @@ use Rattle.efficacy.specs.Efficacy.{inMillilux}
 abbrev pub xFromRounded : ℕ → ℕ → ℕ → ℕ
 xFromRounded x y z = nearest (100000 * x) (x + y + z)
 
+-- u′ from the rounded x and y, as 4 x / (-2 x + 12 y + 3)
+abbrev pub uFromRounded : ℕ → ℕ → ℕ
+uFromRounded x y = nearest (400000 * x) (12 * y + 300000 - 2 * x)
+
 -- photopic illuminance with each product rounded before they are added up
 abbrev pub eachRounded : ℕ → ℕ → List ℕ → ℕ
 eachRounded a s xs = total 471 (λ k. inMillilux YBar s (weightOf YBar k * T a s xs (360 + k)))

@@ -1,4 +1,5 @@
 -- The rules' number, place and values of an answer: what any answer says, whatever type it has.
+use mathlib.Core.Path.{_≡_}
 use mathlib.Core.List.{List, []}
 use Prim.Native.Nat.{ℕ}
 use lib.ListN.{getD}
@@ -21,3 +22,8 @@ given vs fs = record { number = 0; place = 0; values = vs; floats = fs }
 
 abbrev pub refusedWith : Refusal → Said
 refusedWith r = record { number = r .number; place = r .place; values = []; floats = [] }
+
+-- refused exactly as the other is, number and place; and given where it is
+pub record RefusedAs (other said : Said) : Type 0 where
+  pub same-number : said .number ≡ other .number
+  pub same-place : said .place ≡ other .place

@@ -18,12 +18,13 @@ use Rattle.tables.specs.declared.Curve.the-variants.{YBar, VPrime}
 use Rattle.tables.specs.Curves.{weightOf}
 use Rattle.spectrum.proofs.Measured.{W-linear}
 use Rattle.grid.proofs.Light.{grid-fine}
-use Rattle.answers.specs.Said.{saidReading, saidXyz, saidXy}
+use Rattle.answers.specs.Said.{saidReading, saidXyz, saidXy, saidUv}
 use Rattle.curves.specs.Observer.{curvesOf}
-use Rattle.answers.proofs.Values.{saidOver, xy-is}
+use Rattle.answers.specs.Worked.{uvDivisor}
+use Rattle.answers.proofs.Values.{saidOver, xy-is, uv-is}
 use Rattle.answers.proofs.Mixed.{AllLinear, each-unit, each-order, AllOver, numerators, said-between, said-one-dark}
 use Rattle.efficacy.specs.Divisors.{divisorOf}
-use Rattle.readings.specs.Readings.{weighed, illuminanceOf, mesopicWeighed, mesopicOf, xyzOf, xyOf}
+use Rattle.readings.specs.Readings.{weighed, illuminanceOf, mesopicWeighed, mesopicOf, xyzOf, xyOf, uvOf}
 use Rattle.readings.specs.Sums.{mesopicDivisor}
 use Rattle.readings.proofs.Worked.{illuminance-is, mesopic-is, xyz-is}
 use Rattle.readings.proofs.Small.{millilux-fits, mesopic-fits}
@@ -46,29 +47,29 @@ swapped a s xs ys m = record {
 curve-linear : (n : ℕ) (c : Curve) (a s : ℕ) → Linear n (λ xs. weighed c a s xs)
 curve-linear n c a s = W-linear n (weightOf c) a s
 
-factor-linear : (n : ℕ) (c : Curve) (a s : ℕ) → Linear n (λ xs. 683 * weighed c a s xs)
-factor-linear n c a s = linear-times n 683 (λ xs. weighed c a s xs) (curve-linear n c a s)
+times-linear : (n f : ℕ) (c : Curve) (a s : ℕ) → Linear n (λ xs. f * weighed c a s xs)
+times-linear n f c a s = linear-times n f (λ xs. weighed c a s xs) (curve-linear n c a s)
 
 module _ (c : Curve) where
   pub illuminance-unit : OneUnit (λ a s xs. saidReading (illuminanceOf c a s xs))
   illuminance-unit a s xs ys m =
       rw (illuminance-is a s xs c, illuminance-is a s ys c, illuminance-is a s (mix xs ys) c, m .first, m .second, mixture-accepted a s xs ys m)
       (each-unit (length xs) (s * divisorOf c) (millilux-fits a s xs (m .first) c .divisor) xs ys refl (sym (m .one-grid))
-      ((λ zs. 683 * weighed c a s zs) ∷ []) (factor-linear (length xs) c a s, tt))
+      ((λ zs. 683 * weighed c a s zs) ∷ []) (times-linear (length xs) 683 c a s, tt))
 
   pub illuminance-order : InOrder (λ a s xs. saidReading (illuminanceOf c a s xs))
   illuminance-order a s xs ys p q l b =
       rw (illuminance-is a s xs c, illuminance-is a s ys c, p, q)
       (each-order (length xs) (s * divisorOf c) (millilux-fits a s xs p c .divisor) xs ys refl (sym l)
-      ((λ zs. 683 * weighed c a s zs) ∷ []) (factor-linear (length xs) c a s, tt) b)
+      ((λ zs. 683 * weighed c a s zs) ∷ []) (times-linear (length xs) 683 c a s, tt) b)
 
 module _ (k : ℕ) (few : k ≤ 1000) where
   mesopic-linear : (n a s : ℕ) → Linear n (λ xs. 683 * mesopicWeighed k a s xs)
   mesopic-linear n a s =
       linear-times n 683 (λ xs. k * weighed YBar a s xs + (1000 - k) * weighed VPrime a s xs)
       (linear-plus n (λ xs. k * weighed YBar a s xs) (λ xs. (1000 - k) * weighed VPrime a s xs)
-      (linear-times n k (λ xs. weighed YBar a s xs) (curve-linear n YBar a s))
-      (linear-times n (1000 - k) (λ xs. weighed VPrime a s xs) (curve-linear n VPrime a s)))
+      (times-linear n k YBar a s)
+      (times-linear n (1000 - k) VPrime a s))
 
   pub mesopic-unit : OneUnit (λ a s xs. saidReading (mesopicOf k a s xs))
   mesopic-unit a s xs ys m =
@@ -99,7 +100,7 @@ module _ (o : ℕ) (t : isObserver o ≡ true) where
 
   colours-linear : (n a s : ℕ) → AllLinear n (colours a s)
   colours-linear n a s =
-      (factor-linear n (curvesOf o .x) a s, (factor-linear n (curvesOf o .y) a s, (factor-linear n (curvesOf o .z) a s, tt)))
+      (times-linear n 683 (curvesOf o .x) a s, (times-linear n 683 (curvesOf o .y) a s, (times-linear n 683 (curvesOf o .z) a s, tt)))
 
   pub xyz-mixed : OneUnit (λ a s xs. saidXyz (xyzOf o a s xs))
   xyz-mixed a s xs ys m =
@@ -162,8 +163,31 @@ module _ (o : ℕ) (t : isObserver o ≡ true) where
         is = λ a s xs fine. rw (t, fine) (xy-is _ _ _);
       }
 
+  uv-over : Over (λ a s xs. saidUv (uvOf o a s xs))
+  unfolding uvOf
+  uv-over =
+      let x = curvesOf o .x in
+      let y = curvesOf o .y in
+      let z = curvesOf o .z in
+      record {
+        divisor = λ a s zs. uvDivisor (weighed x a s zs) (weighed y a s zs) (weighed z a s zs);
+        parts = λ a s. (λ zs. 4 * weighed x a s zs) ∷ (λ zs. 9 * weighed y a s zs) ∷ [];
+        divisor-linear = λ n a s.
+            linear-plus n (λ zs. weighed x a s zs + 15 * weighed y a s zs) (λ zs. 3 * weighed z a s zs)
+            (linear-plus n (λ zs. weighed x a s zs) (λ zs. 15 * weighed y a s zs) (curve-linear n x a s) (times-linear n 15 y a s))
+            (times-linear n 3 z a s);
+        all-over = λ n a s. ((times-linear n 4 x a s, (λ zs e. omega arith)), ((times-linear n 9 y a s, (λ zs e. omega arith)), tt));
+        is = λ a s xs fine. rw (t, fine) (uv-is _ _ _);
+      }
+
   pub between : BothLit (λ a s xs. saidXy (xyOf o a s xs))
   between = both-lit _ xy-over
 
   pub one-dark : OneDark (λ a s xs. saidXy (xyOf o a s xs))
   one-dark = one-is-dark _ xy-over
+
+  pub uv-between : BothLit (λ a s xs. saidUv (uvOf o a s xs))
+  uv-between = both-lit _ uv-over
+
+  pub uv-one-dark : OneDark (λ a s xs. saidUv (uvOf o a s xs))
+  uv-one-dark = one-is-dark _ uv-over

@@ -2,5 +2,6 @@
 pub mod Instances
 pub mod Constant
 pub mod Unlit
+pub mod Refused
 pub mod Range
 pub mod White

@@ -18,13 +18,13 @@ use Rattle.tables.specs.declared.Curve.the-variants.{YBar, VPrime}
 use Rattle.tables.specs.Curves.{weightOf}
 use Rattle.tables.specs.Columns.{tableSum}
 use Rattle.tables.proofs.Columns.{column-total}
-use Rattle.answers.specs.Worked.{xyFrom, chartFrom}
-use Rattle.answers.specs.Said.{saidReading, saidXyz, saidXy, saidOnChart, saidChart}
-use Rattle.answers.proofs.Values.{xy-unless-dark, xy-most, chart-number}
+use Rattle.answers.specs.Worked.{xyFrom, uvFrom, chartFrom}
+use Rattle.answers.specs.Said.{saidReading, saidXyz, saidXy, saidUv, saidOnChart, saidChart}
+use Rattle.answers.proofs.Values.{xy-unless-dark, xy-most, uv-most, uv-refused, chart-refused}
 use Rattle.curves.specs.Observer.{curvesOf}
 use Rattle.efficacy.specs.Divisors.{divisorOf}
 use Rattle.efficacy.proofs.Worked.{millilux-worked}
-use Rattle.readings.specs.Readings.{weighed, millilux, illuminanceOf, mesopicOf, mesopicWeighed, mesopicMillilux, xyzOf, xyOf, chartOf, figuresOf}
+use Rattle.readings.specs.Readings.{weighed, millilux, illuminanceOf, mesopicOf, mesopicWeighed, mesopicMillilux, xyzOf, xyOf, uvOf, chartOf, figuresOf}
 use Rattle.readings.specs.Figures.{saidFigures}
 use Rattle.readings.proofs.Setting.{mixed-times, mixed-order}
 use Rattle.readings.proofs.Worked.{mesopic-worked}
@@ -144,18 +144,22 @@ mesopic-any k few =
     let less = nearest-lt (683 * full k) (divisor k) (omega arith) 165033524 .1 (omega arith) in
     rw (mesopic-0, greatest-is k) (omega arith)
 
--- the chart's point is dark where x and y are
-pub coordinates : (x y z : ℕ) → Coordinates (saidXy (xyFrom x y z)) (saidOnChart (chartFrom x y z))
-coordinates x y z = record {
-  xy-given = xy-unless-dark x y z;
-  at-most = xy-most x y z;
-  chart-given = rw (chart-number x y z) (xy-unless-dark x y z);
-}
+-- u′ and v′ and the chart's point are dark where x and y are
+pub coordinates : (x y z : ℕ) → Coordinates (saidXy (xyFrom x y z)) (saidUv (uvFrom x y z)) (saidOnChart (chartFrom x y z))
+coordinates x y z =
+    let given = xy-unless-dark x y z in
+    record {
+      xy-given = given;
+      at-most = xy-most x y z;
+      uv-given = rw (uv-refused x y z .same-number) given;
+      uv-at-most = uv-most x y z;
+      chart-given = rw (chart-refused x y z .same-number) given;
+    }
 
 pub xy-range :
     (o a s : ℕ) (xs : List ℕ) → isObserver o ≡ true → lightCheck a s xs ≡ Fine →
-    Coordinates (saidXy (xyOf o a s xs)) (saidChart (chartOf o a s xs))
-unfolding xyOf chartOf
+    Coordinates (saidXy (xyOf o a s xs)) (saidUv (uvOf o a s xs)) (saidChart (chartOf o a s xs))
+unfolding xyOf uvOf chartOf
 xy-range o a s xs t fine = rw (t, fine) (coordinates _ _ _)
 
 pub figures-range : (a s : ℕ) (xs : List ℕ) → lightCheck a s xs ≡ Fine → saidFigures (figuresOf a s xs) .number ≡ 0

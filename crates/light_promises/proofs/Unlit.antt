@@ -25,12 +25,13 @@ use Rattle.answers.specs.declared.OnChart.{OnChart}
 use Rattle.answers.specs.declared.Reading.{Reading}
 use Rattle.answers.specs.declared.XyzAnswer.{XyzAnswer}
 use Rattle.answers.specs.declared.XyAnswer.{XyAnswer}
+use Rattle.answers.specs.declared.UvAnswer.{UvAnswer}
 use Rattle.answers.specs.declared.ChartAnswer.{ChartAnswer}
-use Rattle.answers.specs.Worked.{xyFrom, onChart}
+use Rattle.answers.specs.Worked.{xyFrom, uvFrom, onChart}
 use Rattle.curves.specs.Observer.{curvesOf}
 use Rattle.readings.specs.declared.figures.FiguresAnswer.{FiguresAnswer}
 use Rattle.efficacy.specs.Efficacy.{efficacyOf}
-use Rattle.readings.specs.Readings.{weighed, illuminanceOf, mesopicOf, xyzOf, xyOf, chartOf, figuresOf}
+use Rattle.readings.specs.Readings.{weighed, illuminanceOf, mesopicOf, xyzOf, xyOf, uvOf, chartOf, figuresOf}
 use Rattle.light_promises.specs.Lights.{Unlit, Colourless}
 use Rattle.light_promises.proofs.Constant.{light-accepted}
 
@@ -75,6 +76,10 @@ module _ (a s : ℕ) (xs : List ℕ) (fine : lightCheck a s xs ≡ Fine) where
     pub no-xy : xyOf o a s xs ≡ XyAnswer.Refused (refusal DARK 0)
     unfolding xyOf xyFrom
     no-xy = rw (e, fine, no-sums .0, no-sums .1, no-sums .2)
+
+    pub no-uv : uvOf o a s xs ≡ UvAnswer.Refused (refusal DARK 0)
+    unfolding uvOf uvFrom
+    no-uv = rw (e, fine, no-sums .0, no-sums .1, no-sums .2)
 
     pub no-point : chartOf o a s xs ≡ ChartAnswer.Given OnChart.Dark
     unfolding chartOf xyFrom onChart

@@ -20,9 +20,9 @@ use Rattle.tables.proofs.Lit.{lit-sum}
 use Rattle.spectrum.specs.Line.{W}
 use Rattle.spectrum.proofs.Measured.{W-linear}
 use Rattle.curves.specs.Observer.{curvesOf}
-use Rattle.answers.specs.Said.{saidXy, saidChart}
+use Rattle.answers.specs.Said.{saidXy, saidUv, saidChart}
 use Rattle.answers.proofs.Mixed.{each-order}
-use Rattle.panel.specs.Panel.{illuminantOf, settingCheck, panelCheck, whiteSum, panelXyzOf, panelXyOf, panelChartOf}
+use Rattle.panel.specs.Panel.{illuminantOf, settingCheck, panelCheck, whiteSum, panelXyzOf, panelXyOf, panelUvOf, panelChartOf}
 use Rattle.panel.specs.Figures.{panelFiguresOf, saidPanelFigures}
 use Rattle.panel.proofs.Accepted.{setting-grid, on-grid, within}
 use Rattle.panel.proofs.Sized.{white-lit, divisor-some}
@@ -37,8 +37,8 @@ is-given o i a s rs fine = rw fine
 
 pub xy-given :
     (o i a s : ℕ) (rs : List ℕ) → panelCheck o i a s rs ≡ Fine →
-    Coordinates (saidXy (panelXyOf o i a s rs)) (saidChart (panelChartOf o i a s rs))
-unfolding panelXyOf panelChartOf
+    Coordinates (saidXy (panelXyOf o i a s rs)) (saidUv (panelUvOf o i a s rs)) (saidChart (panelChartOf o i a s rs))
+unfolding panelXyOf panelUvOf panelChartOf
 xy-given o i a s rs fine = rw fine (coordinates _ _ _)
 
 pub figures-given : (o i a s : ℕ) (rs : List ℕ) → panelCheck o i a s rs ≡ Fine → saidPanelFigures (panelFiguresOf o i a s rs) .number ≡ 0

@@ -1,5 +1,5 @@
--- What is promised of mixed light, of light in order, of darkness and of the mesopic reading by day and by night, said of these
--- readings.
+-- What is promised of mixed light, of light in order, of darkness, of the refusals of u′, v′ and the chart, and of the mesopic
+-- reading by day and by night, said of these readings.
 use mathlib.Core.Path.{_≡_}
 use mathlib.Core.Bool.{true}
 use mathlib.Core.List.{List, [], _∷_, _++_}
@@ -14,10 +14,10 @@ use Rattle.tables.specs.declared.Curve.{Curve}
 use Rattle.tables.specs.declared.Curve.the-variants.{YBar, YBar10, VPrime}
 use Rattle.tables.specs.Curves.{weightOf}
 use Rattle.spectrum.specs.Line.{T}
-use Rattle.grid.specs.Said.{Said, value, given, refusedWith}
-use Rattle.answers.specs.Said.{saidReading, saidXyz, saidXy, saidChart}
+use Rattle.grid.specs.Said.{Said, value, given, refusedWith, RefusedAs}
+use Rattle.answers.specs.Said.{saidReading, saidXyz, saidXy, saidUv, saidChart}
 use Rattle.curves.specs.Observer.{curvesOf}
-use Rattle.readings.specs.Readings.{photopicOf, scotopicOf, photopic10Of, mesopicOf, xyzOf, xyOf, chartOf, figuresOf}
+use Rattle.readings.specs.Readings.{photopicOf, scotopicOf, photopic10Of, mesopicOf, xyzOf, xyOf, uvOf, chartOf, figuresOf}
 use Rattle.readings.specs.Figures.{saidFigures}
 
 -- an answer by start, step and samples, as the rules' number, place and values
@@ -60,7 +60,7 @@ OneDark answer =
     (a s : ℕ) (xs ys : List ℕ) → Mixable a s xs ys → IsDark (answer a s xs) → (IsDark (answer a s ys) → ⊥) →
     (answer a s (mix xs ys) ≡ answer a s ys) × (answer a s (mix ys xs) ≡ answer a s ys)
 
--- mixing behaves, for each illuminance, for X, Y, Z and for x, y
+-- mixing behaves, for each illuminance, for X, Y, Z, for x, y and for u′, v′
 pub record Mixing : Type 0 where
   pub accepted : (a s : ℕ) (xs ys : List ℕ) → Mixable a s xs ys → lightCheck a s (mix xs ys) ≡ Fine
   pub photopic : OneUnit (λ a s xs. saidReading (photopicOf a s xs))
@@ -70,6 +70,8 @@ pub record Mixing : Type 0 where
   pub xyz : (o : ℕ) → isObserver o ≡ true → OneUnit (λ a s xs. saidXyz (xyzOf o a s xs))
   pub between : (o : ℕ) → isObserver o ≡ true → BothLit (λ a s xs. saidXy (xyOf o a s xs))
   pub one-dark : (o : ℕ) → isObserver o ≡ true → OneDark (λ a s xs. saidXy (xyOf o a s xs))
+  pub uv-between : (o : ℕ) → isObserver o ≡ true → BothLit (λ a s xs. saidUv (uvOf o a s xs))
+  pub uv-one-dark : (o : ℕ) → isObserver o ≡ true → OneDark (λ a s xs. saidUv (uvOf o a s xs))
 
 -- the order of the samples is kept by each illuminance and by X, Y, Z
 pub record Order : Type 0 where
@@ -118,6 +120,8 @@ pub record Darkness : Type 0 where
       saidXyz (xyzOf o a s xs) ≡ noughts
   pub xy :
       (o a s : ℕ) (xs : List ℕ) → isObserver o ≡ true → lightCheck a s xs ≡ Fine → Colourless o a s xs → saidXy (xyOf o a s xs) ≡ dark
+  pub uv :
+      (o a s : ℕ) (xs : List ℕ) → isObserver o ≡ true → lightCheck a s xs ≡ Fine → Colourless o a s xs → saidUv (uvOf o a s xs) ≡ dark
   pub chart :
       (o a s : ℕ) (xs : List ℕ) → isObserver o ≡ true → lightCheck a s xs ≡ Fine → Colourless o a s xs →
       saidChart (chartOf o a s xs) ≡ dark
@@ -125,6 +129,11 @@ pub record Darkness : Type 0 where
   pub figures :
       (a s : ℕ) (xs : List ℕ) → lightCheck a s xs ≡ Fine → Colourless 2 a s xs → Unlit VPrime a s xs →
       saidFigures (figuresOf a s xs) ≡ given (0 ∷ 0 ∷ 0 ∷ 0 ∷ 0 ∷ DARK ∷ 0 ∷ 0 ∷ []) []
+
+-- whatever is asked, u′ and v′ and the chart's point are refused exactly as x and y are
+pub record ColourRefusals : Type 0 where
+  pub uv : (o a s : ℕ) (xs : List ℕ) → RefusedAs (saidXy (xyOf o a s xs)) (saidUv (uvOf o a s xs))
+  pub chart : (o a s : ℕ) (xs : List ℕ) → RefusedAs (saidXy (xyOf o a s xs)) (saidChart (chartOf o a s xs))
 
 -- at k = 0 the mesopic reading is the scotopic one and at k = 1000 the photopic one, refusals and all
 pub record MesopicEnds : Type 0 where

@@ -9,8 +9,8 @@ use Rattle.grid.specs.Check.{Within, isObserver, gridCheck, lightCheck}
 use Rattle.grid.specs.Said.{Said, value, given}
 use Rattle.mixing.specs.Sum.{total}
 use Rattle.spectrum.specs.Line.{W}
-use Rattle.answers.specs.Said.{saidReading, saidXyz, saidXy, saidChart}
-use Rattle.readings.specs.Readings.{photopicOf, scotopicOf, photopic10Of, mesopicMillilux, mesopicOf, xyzOf, xyOf, chartOf, figuresOf}
+use Rattle.answers.specs.Said.{saidReading, saidXyz, saidXy, saidUv, saidChart}
+use Rattle.readings.specs.Readings.{photopicOf, scotopicOf, photopic10Of, mesopicMillilux, mesopicOf, xyzOf, xyOf, uvOf, chartOf, figuresOf}
 use Rattle.readings.specs.Figures.{saidFigures}
 use Rattle.light_promises.specs.Lights.{Answer, IsDark}
 
@@ -29,10 +29,12 @@ mesopicGreatest k = mesopicMillilux k 360 1 (replicate 471 1000000)
 abbrev pub GivenUnlessDark : Said → Type 0
 GivenUnlessDark said = (IsDark said → ⊥) → said .number ≡ 0
 
--- x and y are given, each at most 100000, and the chart's point is given, unless they are dark
-pub record Coordinates (xy chart : Said) : Type 0 where
+-- x and y are given, each at most 100000, u′ and v′, at most 400000 and 60000, and the chart's point, unless they are dark
+pub record Coordinates (xy uv chart : Said) : Type 0 where
   pub xy-given : GivenUnlessDark xy
   pub at-most : (i : ℕ) → value xy i ≤ 100000
+  pub uv-given : GivenUnlessDark uv
+  pub uv-at-most : (i : ℕ) → value uv i ≤ getD (400000 ∷ 60000 ∷ []) i 0
   pub chart-given : GivenUnlessDark chart
 
 pub record Range : Type 0 where
@@ -50,6 +52,6 @@ pub record Range : Type 0 where
   pub xyz-10 : Greatest (λ a s xs. saidXyz (xyzOf 10 a s xs)) (79741014 ∷ 79750145 ∷ 79758419 ∷ [])
   pub xy :
       (o a s : ℕ) (xs : List ℕ) → isObserver o ≡ true → lightCheck a s xs ≡ Fine →
-      Coordinates (saidXy (xyOf o a s xs)) (saidChart (chartOf o a s xs))
+      Coordinates (saidXy (xyOf o a s xs)) (saidUv (uvOf o a s xs)) (saidChart (chartOf o a s xs))
   -- the figures in one call, dark or not
   pub figures : (a s : ℕ) (xs : List ℕ) → lightCheck a s xs ≡ Fine → saidFigures (figuresOf a s xs) .number ≡ 0

@@ -1,7 +1,7 @@
-// What is promised of a light's readings: their range, how mixed light behaves, the order of light, darkness, and the mesopic
-// reading by day and by night.
+// What is promised of a light's readings: their range, how mixed light behaves, the order of light, darkness, the refusals of
+// u′, v′ and the chart, and the mesopic reading by day and by night.
 ghost use Rattle.light_promises.specs.Range.{Range};
-ghost use Rattle.light_promises.specs.Lights.{Mixing, Order, Darkness, MesopicEnds};
+ghost use Rattle.light_promises.specs.Lights.{Mixing, Order, Darkness, ColourRefusals, MesopicEnds};
 
 pub fn promise_range()
     ensures { λ _. ⌜ Range ⌝ }
@@ -17,6 +17,10 @@ pub fn promise_order()
 
 pub fn promise_darkness()
     ensures { λ _. ⌜ Darkness ⌝ }
+{}
+
+pub fn promise_colour_refusals()
+    ensures { λ _. ⌜ ColourRefusals ⌝ }
 {}
 
 pub fn promise_mesopic_ends()

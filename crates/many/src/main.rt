@@ -82,6 +82,7 @@ fn light(k: u32, start: u32, step: u32, samples: &[u32]) {
 fn colour(observer: u32, start: u32, step: u32, samples: &[u32]) {
     shown::xyz(readings::colour::xyz(observer, start, step, samples));
     shown::xy(readings::colour::xy(observer, start, step, samples));
+    shown::uv(readings::colour::uv(observer, start, step, samples));
     shown::chart(readings::colour::chart(observer, start, step, samples));
     shown::figures(readings::figures::figures(start, step, samples));
 }
@@ -89,6 +90,7 @@ fn colour(observer: u32, start: u32, step: u32, samples: &[u32]) {
 fn panel(observer: u32, illuminant: u32, start: u32, step: u32, reflectances: &[u16]) {
     shown::xyz(panel::panel_xyz(observer, illuminant, start, step, reflectances));
     shown::xy(panel::panel_xy(observer, illuminant, start, step, reflectances));
+    shown::uv(panel::panel_uv(observer, illuminant, start, step, reflectances));
     shown::chart(panel::panel_chart(observer, illuminant, start, step, reflectances));
     shown::panel_figures(panel::figures::panel_figures(
         observer,

@@ -18,6 +18,7 @@ use Rattle.mixing.proofs.Nearest.{nearest-bound}
 use Rattle.spectrum.specs.Line.{W}
 use Rattle.spectrum.proofs.Light.{W-bound}
 use Rattle.curves.specs.Observer.{curvesOf}
+use Rattle.answers.specs.Worked.{uvDivisor}
 use Rattle.answers.specs.FromSums.{XyzFit}
 use Rattle.panel.specs.Panel.{illuminantOf, panelCheck, whiteSum, panelXSum, panelYSum, panelZSum}
 use Rattle.tables.specs.Curves.{litBy}
@@ -54,7 +55,7 @@ module _ (o i a s : ℕ) (rs : List ℕ) (fine : panelCheck o i a s rs ≡ Fine)
       le-trans (panel-bound (litBy (illuminantOf i) c))
       (mul-le-mul (mul-le-mul-right 10000 (on-grid o i a s rs fine .step-high)) (lit-total (illuminantOf i) c))
 
-  pub colour-small : panelXSum o i a s rs + panelYSum o i a s rs + panelZSum o i a s rs < 2 ^ 96
+  pub colour-small : uvDivisor (panelXSum o i a s rs) (panelYSum o i a s rs) (panelZSum o i a s rs) < 2 ^ 96
   colour-small =
       let x = sum-small (curvesOf o .x) in
       let y = sum-small (curvesOf o .y) in

@@ -1,13 +1,13 @@
 -- What is worked from the sums of an accepted panel is the definition's.
 use mathlib.Core.Path.{_≡_}
 use mathlib.Core.List.{List}
-use Prim.Native.Nat.{ℕ, _+_, _*_, _^_, _≤_, _<_}
+use Prim.Native.Nat.{ℕ, _*_, _^_, _≤_, _<_}
 use Rattle.grid.specs.declared.Check.the-variants.{Fine}
 use Rattle.exact.specs.Value.{short}
 use Rattle.curves.specs.declared.weigh.Sums.{Sums}
-use Rattle.answers.specs.Worked.{xyzFrom, xyFrom}
+use Rattle.answers.specs.Worked.{xyzFrom, xyFrom, uvDivisor}
 use Rattle.answers.specs.declared.from_sums.SumsAnswer.{SumsAnswer}
-use Rattle.answers.specs.FromSums.{ShortTotal, XyzFit}
+use Rattle.answers.specs.FromSums.{ShortDivisors, XyzFit}
 use Rattle.answers.proofs.FromSums.{given-sums}
 use Rattle.panel.specs.Panel.{panelCheck, whiteSum, panelXyz, panelXy}
 use Rattle.panel.specs.Sums.{PanelSums, PanelSummed}
@@ -18,7 +18,7 @@ use Rattle.panel.proofs.Sized.{colour-small, xyz-fit}
 pub record Worked (o i a s : ℕ) (rs : List ℕ) (sums : Sums) : Type 0 where
   pub fine : panelCheck o i a s rs ≡ Fine
   pub step-small : s ≤ 10
-  pub total-small : short (sums .x) + short (sums .y) + short (sums .z) < 2 ^ 96
+  pub divisor-small : uvDivisor (short (sums .x)) (short (sums .y)) (short (sums .z)) < 2 ^ 96
   pub fits : XyzFit (10 * short (sums .x)) (10 * short (sums .y)) (10 * short (sums .z)) (s * whiteSum o i)
   pub xyz : xyzFrom (10 * short (sums .x)) (10 * short (sums .y)) (10 * short (sums .z)) (s * whiteSum o i) ≡ panelXyz o i a s rs
   pub xy : xyFrom (short (sums .x)) (short (sums .y)) (short (sums .z)) ≡ panelXy o i a s rs
@@ -31,11 +31,11 @@ module _ (o i a s : ℕ) (rs : List ℕ) (answer : SumsAnswer) (is : PanelSummed
       record {
         fine = given .0;
         step-small = on-grid o i a s rs (given .0) .step-high;
-        total-small = rw (are .x, are .y, are .z) (colour-small o i a s rs (given .0));
+        divisor-small = rw (are .x, are .y, are .z) (colour-small o i a s rs (given .0));
         fits = rw (are .x, are .y, are .z) (xyz-fit o i a s rs (given .0));
         xyz = rw (are .x, are .y, are .z);
         xy = rw (are .x, are .y, are .z);
       }
 
-  pub short-total : ShortTotal answer
-  short-total sums e = worked sums e .total-small
+  pub short-divisors : ShortDivisors answer
+  short-divisors sums e = worked sums e .divisor-small

@@ -15,8 +15,9 @@ use Rattle.spectrum.specs.Line.{W}
 use Rattle.answers.specs.declared.Xyz.{Xyz}
 use Rattle.answers.specs.declared.XyzAnswer.{XyzAnswer}
 use Rattle.answers.specs.declared.XyAnswer.{XyAnswer}
+use Rattle.answers.specs.declared.UvAnswer.{UvAnswer}
 use Rattle.answers.specs.declared.ChartAnswer.{ChartAnswer}
-use Rattle.answers.specs.Worked.{xyzFrom, xyFrom, chartFrom}
+use Rattle.answers.specs.Worked.{xyzFrom, xyFrom, uvFrom, chartFrom}
 use Rattle.curves.specs.Observer.{curvesOf}
 
 -- ILLUMINANT: neither 1 (A) nor 2 (D65)
@@ -64,6 +65,11 @@ panelXy o i a s rs = xyFrom (panelXSum o i a s rs) (panelYSum o i a s rs) (panel
 
 unfoldable pub panelXyOf : ℕ → ℕ → ℕ → ℕ → List ℕ → XyAnswer
 panelXyOf o i a s rs = unless (panelCheck o i a s rs) XyAnswer.Refused (panelXy o i a s rs)
+
+-- u′ and v′ come from the same
+unfoldable pub panelUvOf : ℕ → ℕ → ℕ → ℕ → List ℕ → UvAnswer
+panelUvOf o i a s rs =
+    unless (panelCheck o i a s rs) UvAnswer.Refused (uvFrom (panelXSum o i a s rs) (panelYSum o i a s rs) (panelZSum o i a s rs))
 
 -- dark where x and y would be refused DARK; the other refusals hold as for x and y
 unfoldable pub panelChartOf : ℕ → ℕ → ℕ → ℕ → List ℕ → ChartAnswer

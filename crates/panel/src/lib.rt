@@ -1,4 +1,4 @@
-// Panel colour: X, Y, Z, the coordinates x and y, and the chart's point of a panel under an illuminant.
+// Panel colour: X, Y, Z, the coordinates x, y and u′, v′, and the chart's point of a panel under an illuminant.
 pub mod figures;
 mod part;
 mod reflectances;
@@ -8,14 +8,16 @@ mod white;
 use crate::sums::panel_sums;
 use crate::white::divisor;
 use answers::ChartAnswer;
+use answers::UvAnswer;
 use answers::XyAnswer;
 use answers::XyzAnswer;
 use answers::from_sums::SumsAnswer;
 use answers::from_sums::chart_summed;
+use answers::from_sums::uv_summed;
 use answers::from_sums::xy_summed;
 use answers::work::xyz_from;
 ghost use mathlib.Core.Path.{_≡_};
-ghost use Rattle.panel.specs.Panel.{panelXyzOf, panelXyOf, panelChartOf};
+ghost use Rattle.panel.specs.Panel.{panelXyzOf, panelXyOf, panelUvOf, panelChartOf};
 
 // X, Y and Z in thousandths: Y of a white panel is 100000.
 pub fn panel_xyz(
@@ -47,6 +49,19 @@ pub fn panel_xy(
     ensures { λ r. ⌜ r ≡ panelXyOf observer illuminant start step (now (reflectances .entry)) ⌝ }
 {
     xy_summed(panel_sums(observer, illuminant, start, step, reflectances))
+}
+
+// u′ and v′ in hundred-thousandths.
+pub fn panel_uv(
+    observer: u32,
+    illuminant: u32,
+    start: u32,
+    step: u32,
+    reflectances: &[u16],
+) -> UvAnswer
+    ensures { λ r. ⌜ r ≡ panelUvOf observer illuminant start step (now (reflectances .entry)) ⌝ }
+{
+    uv_summed(panel_sums(observer, illuminant, start, step, reflectances))
 }
 
 // The chart's point, or dark.

@@ -9,11 +9,13 @@ use Rattle.readings.proofs.photopic_10.Reads as photopic-10
 use Rattle.readings.proofs.mesopic.Reads as mesopic
 use Rattle.readings.proofs.colour.xyz.Reads as xyz
 use Rattle.readings.proofs.colour.xy.Reads as xy
+use Rattle.readings.proofs.colour.uv.Reads as uv
 use Rattle.readings.proofs.colour.chart.Reads as chart
 use Rattle.readings.proofs.figures.figures.Reads as figures
 use Rattle.panel.proofs.figures.panel_figures.Reads as panel-figures
 use Rattle.panel.proofs.panel_xyz.Reads as panel-xyz
 use Rattle.panel.proofs.panel_xy.Reads as panel-xy
+use Rattle.panel.proofs.panel_uv.Reads as panel-uv
 use Rattle.panel.proofs.panel_chart.Reads as panel-chart
 use Rattle.record.proofs.read_record.Reads as read-record
 use Rattle.record.proofs.write_record.Reads as write-record
@@ -24,10 +26,12 @@ use Rattle.quailribbon.proofs.lights.qr_photopic_10.Reads as qr-photopi
 use Rattle.quailribbon.proofs.lights.qr_mesopic.Reads as qr-mesopic
 use Rattle.quailribbon.proofs.lights.qr_xyz.Reads as qr-xyz
 use Rattle.quailribbon.proofs.lights.qr_xy.Reads as qr-xy
+use Rattle.quailribbon.proofs.lights.qr_uv.Reads as qr-uv
 use Rattle.quailribbon.proofs.lights.qr_chart.Reads as qr-chart
 use Rattle.quailribbon.proofs.lights.qr_figures.Reads as qr-figures
 use Rattle.quailribbon.proofs.panels.qr_panel_xyz.Reads as qr-panel-xyz
 use Rattle.quailribbon.proofs.panels.qr_panel_xy.Reads as qr-panel-xy
+use Rattle.quailribbon.proofs.panels.qr_panel_uv.Reads as qr-panel-uv
 use Rattle.quailribbon.proofs.panels.qr_panel_chart.Reads as qr-panel-chart
 use Rattle.quailribbon.proofs.panels.qr_panel_figures.Reads as qr-panel-figures
 use Rattle.quailribbon.proofs.records.qr_read_record.Reads as qr-read-record
@@ -69,6 +73,9 @@ one-xyz k a r q e f p s = same p s
 one-xy : OneResult xy.Post
 one-xy k a r q e f p s = same p s
 
+one-uv : OneResult uv.Post
+one-uv k a r q e f p s = same p s
+
 one-chart : OneResult chart.Post
 one-chart k a r q e f p s = same p s
 
@@ -82,6 +89,9 @@ one-panel-xyz k a r q e f p s = same p s
 
 one-panel-xy : OneResult panel-xy.Post
 one-panel-xy k a r q e f p s = same p s
+
+one-panel-uv : OneResult panel-uv.Post
+one-panel-uv k a r q e f p s = same p s
 
 one-panel-chart : OneResult panel-chart.Post
 one-panel-chart k a r q e f p s = same p s
@@ -131,6 +141,9 @@ one-qr-xyz k a r q e f p s = same p s
 one-qr-xy : OneResult qr-xy.Post
 one-qr-xy k a r q e f p s = same p s
 
+one-qr-uv : OneResult qr-uv.Post
+one-qr-uv k a r q e f p s = same p s
+
 one-qr-chart : OneResult qr-chart.Post
 one-qr-chart k a r q e f p s = same p s
 
@@ -142,6 +155,9 @@ one-qr-panel-xyz k a r q e f p s = same p s
 
 one-qr-panel-xy : OneResult qr-panel-xy.Post
 one-qr-panel-xy k a r q e f p s = same p s
+
+one-qr-panel-uv : OneResult qr-panel-uv.Post
+one-qr-panel-uv k a r q e f p s = same p s
 
 one-qr-panel-chart : OneResult qr-panel-chart.Post
 one-qr-panel-chart k a r q e f p s = same p s

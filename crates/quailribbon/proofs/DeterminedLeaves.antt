@@ -38,6 +38,7 @@ use Rattle.spectrum.proofs.line.lay.Reads as lay
 use Rattle.answers.proofs.work.xyz_from.Reads as xyz-from
 use Rattle.answers.proofs.work.xy_from.Reads as xy-from
 use Rattle.answers.proofs.from_sums.xy_summed.Reads as xy-summed
+use Rattle.answers.proofs.from_sums.uv_summed.Reads as uv-summed
 use Rattle.answers.proofs.from_sums.chart_summed.Reads as chart-summed
 
 -- The contract of a number in digits gives its value, which fixes the digits since each below the highest fits its field.
@@ -191,6 +192,9 @@ one-xy-from k a r q e f p s = same p s
 
 one-xy-summed : OneResult xy-summed.Post
 one-xy-summed k a r q e f p s = same p s
+
+one-uv-summed : OneResult uv-summed.Post
+one-uv-summed k a r q e f p s = same p s
 
 one-chart-summed : OneResult chart-summed.Post
 one-chart-summed k a r q e f p s = same p s

@@ -7,6 +7,7 @@ use Rattle.grid.specs.Said.{Said, value}
 use Rattle.quailribbon.specs.declared.flat.QrReading.{QrReading}
 use Rattle.quailribbon.specs.declared.flat.QrXyz.{QrXyz}
 use Rattle.quailribbon.specs.declared.flat.QrXy.{QrXy}
+use Rattle.quailribbon.specs.declared.flat.QrUv.{QrUv}
 use Rattle.quailribbon.specs.declared.flat.QrChart.{QrChart}
 use Rattle.quailribbon.specs.declared.flat.QrFigures.{QrFigures}
 use Rattle.quailribbon.specs.declared.flat.QrPanelFigures.{QrPanelFigures}
@@ -21,6 +22,9 @@ flatXyz said =
 abbrev pub flatXy : Said → QrXy
 flatXy said = record { number = said .number; place = said .place; x = value said 0; y = value said 1 }
 
+abbrev pub flatUv : Said → QrUv
+flatUv said = record { number = said .number; place = said .place; u = value said 0; v = value said 1 }
+
 -- 0.0
 abbrev pub zeroFloat : Float
 zeroFloat = ofInt binary64 (pos 0)
@@ -30,7 +34,15 @@ abbrev pub float : Said → ℕ → Float
 float said i = getD (said .floats) i zeroFloat
 
 abbrev pub flatChart : Said → QrChart
-flatChart said = record { number = said .number; place = said .place; x = float said 0; y = float said 1 }
+flatChart said =
+    record {
+      number = said .number;
+      place = said .place;
+      x = float said 0;
+      y = float said 1;
+      u = float said 2;
+      v = float said 3;
+    }
 
 abbrev pub flatFigures : Said → QrFigures
 flatFigures said =

@@ -26,11 +26,21 @@ pub struct QrXy {
 }
 
 #[repr(C)]
+pub struct QrUv {
+    pub number: u32,
+    pub place: u32,
+    pub u: u32,
+    pub v: u32,
+}
+
+#[repr(C)]
 pub struct QrChart {
     pub number: u32,
     pub place: u32,
     pub x: f64,
     pub y: f64,
+    pub u: f64,
+    pub v: f64,
 }
 
 #[repr(C)]

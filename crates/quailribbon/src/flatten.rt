@@ -4,6 +4,7 @@ use crate::flat::QrFigures;
 use crate::flat::QrPanelFigures;
 use crate::flat::QrReading;
 use crate::flat::QrRecord;
+use crate::flat::QrUv;
 use crate::flat::QrWritten;
 use crate::flat::QrXy;
 use crate::flat::QrXyz;
@@ -11,6 +12,7 @@ use answers::ChartAnswer;
 use answers::ChartPoint;
 use answers::OnChart;
 use answers::Reading;
+use answers::UvAnswer;
 use answers::XyAnswer;
 use answers::XyzAnswer;
 use grid::refusals::DARK;
@@ -20,12 +22,12 @@ use readings::figures::FiguresAnswer;
 use record::RecordRead;
 use record::RecordWritten;
 ghost use mathlib.Core.Path.{_≡_};
-ghost use Rattle.answers.specs.Said.{saidReading, saidXyz, saidXy, saidOnChart, saidChart};
+ghost use Rattle.answers.specs.Said.{saidReading, saidXyz, saidXy, saidUv, saidOnChart, saidChart};
 ghost use Rattle.record.specs.Said.{saidRead, saidWritten};
 ghost use Rattle.page.specs.Said.{saidReported};
 ghost use Rattle.readings.specs.Figures.{saidFigures};
 ghost use Rattle.panel.specs.Figures.{saidPanelFigures};
-ghost use Rattle.quailribbon.specs.Flat.{flatReading, flatXyz, flatXy, flatChart, flatFigures, flatPanelFigures};
+ghost use Rattle.quailribbon.specs.Flat.{flatReading, flatXyz, flatXy, flatUv, flatChart, flatFigures, flatPanelFigures};
 ghost use Rattle.quailribbon.specs.Records.{flatRecord, flatWritten};
 
 pub fn flat_reading(answer: Reading) -> QrReading
@@ -85,6 +87,25 @@ pub fn flat_xy(answer: XyAnswer) -> QrXy
     }
 }
 
+pub fn flat_uv(answer: UvAnswer) -> QrUv
+    ensures { λ r. ⌜ r ≡ flatUv (saidUv answer) ⌝ }
+{
+    match answer {
+        UvAnswer::Value(value) => QrUv {
+            number: 0,
+            place: 0,
+            u: value.u,
+            v: value.v,
+        },
+        UvAnswer::Refused(refusal) => QrUv {
+            number: refusal.number,
+            place: refusal.place,
+            u: 0,
+            v: 0,
+        },
+    }
+}
+
 pub fn flat_chart(answer: ChartAnswer) -> QrChart
     ensures { λ r. ⌜ r ≡ flatChart (saidChart answer) ⌝ }
 {
@@ -95,6 +116,8 @@ pub fn flat_chart(answer: ChartAnswer) -> QrChart
             place: refusal.place,
             x: 0.0,
             y: 0.0,
+            u: 0.0,
+            v: 0.0,
         },
     }
 }
@@ -110,6 +133,8 @@ fn flat_on_chart(place: OnChart) -> QrChart
             place: 0,
             x: 0.0,
             y: 0.0,
+            u: 0.0,
+            v: 0.0,
         },
     }
 }
@@ -122,6 +147,8 @@ fn flat_point(point: ChartPoint) -> QrChart
         place: 0,
         x: point.x,
         y: point.y,
+        u: point.u,
+        v: point.v,
     }
 }
 

@@ -2,18 +2,20 @@
 use crate::flat::QrChart;
 use crate::flat::QrFigures;
 use crate::flat::QrReading;
+use crate::flat::QrUv;
 use crate::flat::QrXy;
 use crate::flat::QrXyz;
 use crate::flatten::flat_chart;
 use crate::flatten::flat_figures;
 use crate::flatten::flat_reading;
+use crate::flatten::flat_uv;
 use crate::flatten::flat_xy;
 use crate::flatten::flat_xyz;
 ghost use mathlib.Core.Path.{_≡_};
-ghost use Rattle.answers.specs.Said.{saidReading, saidXyz, saidXy, saidChart};
-ghost use Rattle.readings.specs.Readings.{photopicOf, scotopicOf, photopic10Of, mesopicOf, xyzOf, xyOf, chartOf, figuresOf};
+ghost use Rattle.answers.specs.Said.{saidReading, saidXyz, saidXy, saidUv, saidChart};
+ghost use Rattle.readings.specs.Readings.{photopicOf, scotopicOf, photopic10Of, mesopicOf, xyzOf, xyOf, uvOf, chartOf, figuresOf};
 ghost use Rattle.readings.specs.Figures.{saidFigures};
-ghost use Rattle.quailribbon.specs.Flat.{flatReading, flatXyz, flatXy, flatChart, flatFigures};
+ghost use Rattle.quailribbon.specs.Flat.{flatReading, flatXyz, flatXy, flatUv, flatChart, flatFigures};
 
 #[no_mangle]
 pub extern "C" fn qr_photopic(start: u32, step: u32, samples: &[u32]) -> QrReading
@@ -55,6 +57,13 @@ pub extern "C" fn qr_xy(observer: u32, start: u32, step: u32, samples: &[u32]) -
     ensures { λ r. ⌜ r ≡ flatXy (saidXy (xyOf observer start step (now (samples .entry)))) ⌝ }
 {
     flat_xy(readings::colour::xy(observer, start, step, samples))
+}
+
+#[no_mangle]
+pub extern "C" fn qr_uv(observer: u32, start: u32, step: u32, samples: &[u32]) -> QrUv
+    ensures { λ r. ⌜ r ≡ flatUv (saidUv (uvOf observer start step (now (samples .entry)))) ⌝ }
+{
+    flat_uv(readings::colour::uv(observer, start, step, samples))
 }
 
 #[no_mangle]

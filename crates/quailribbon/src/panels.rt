@@ -1,17 +1,19 @@
 // The colour of a panel, for C.
 use crate::flat::QrChart;
 use crate::flat::QrPanelFigures;
+use crate::flat::QrUv;
 use crate::flat::QrXy;
 use crate::flat::QrXyz;
 use crate::flatten::flat_chart;
 use crate::flatten::flat_panel_figures;
+use crate::flatten::flat_uv;
 use crate::flatten::flat_xy;
 use crate::flatten::flat_xyz;
 ghost use mathlib.Core.Path.{_≡_};
-ghost use Rattle.answers.specs.Said.{saidXyz, saidXy, saidChart};
-ghost use Rattle.panel.specs.Panel.{panelXyzOf, panelXyOf, panelChartOf};
+ghost use Rattle.answers.specs.Said.{saidXyz, saidXy, saidUv, saidChart};
+ghost use Rattle.panel.specs.Panel.{panelXyzOf, panelXyOf, panelUvOf, panelChartOf};
 ghost use Rattle.panel.specs.Figures.{panelFiguresOf, saidPanelFigures};
-ghost use Rattle.quailribbon.specs.Flat.{flatXyz, flatXy, flatChart, flatPanelFigures};
+ghost use Rattle.quailribbon.specs.Flat.{flatXyz, flatXy, flatUv, flatChart, flatPanelFigures};
 
 #[no_mangle]
 pub extern "C" fn qr_panel_xyz(
@@ -37,6 +39,19 @@ pub extern "C" fn qr_panel_xy(
     ensures { λ r. ⌜ r ≡ flatXy (saidXy (panelXyOf observer illuminant start step (now (reflectances .entry)))) ⌝ }
 {
     flat_xy(panel::panel_xy(observer, illuminant, start, step, reflectances))
+}
+
+#[no_mangle]
+pub extern "C" fn qr_panel_uv(
+    observer: u32,
+    illuminant: u32,
+    start: u32,
+    step: u32,
+    reflectances: &[u16],
+) -> QrUv
+    ensures { λ r. ⌜ r ≡ flatUv (saidUv (panelUvOf observer illuminant start step (now (reflectances .entry)))) ⌝ }
+{
+    flat_uv(panel::panel_uv(observer, illuminant, start, step, reflectances))
 }
 
 #[no_mangle]

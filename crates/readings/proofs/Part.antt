@@ -20,7 +20,8 @@ use Rattle.spectrum.specs.Begin.{Begins, Begun}
 use Rattle.spectrum.specs.declared.line.Begin.{Begin}
 use Rattle.spectrum.proofs.Begin.{partFrom, few, begun, W-begun}
 use Rattle.answers.specs.declared.from_sums.SumsAnswer.{SumsAnswer}
-use Rattle.answers.specs.FromSums.{ShortTotal, XyzFit}
+use Rattle.answers.specs.Worked.{uvDivisor}
+use Rattle.answers.specs.FromSums.{ShortDivisors, XyzFit}
 use Rattle.answers.proofs.FromSums.{given-sums}
 use Rattle.readings.specs.Readings.{weighed, colourCheck}
 use Rattle.readings.specs.Sums.{LightSums, LightSummed}
@@ -39,15 +40,19 @@ module _ {a s : ℕ} {xs : List ℕ} (light : AcceptedLight a s xs) where
   pub step-small : s ≤ 10
   step-small = on-grid a s xs (light .fine) .step-high
 
-  -- the sum of its three sums is a number of 96 bits
-  pub total-small : {o : ℕ} {sums : Sums} → LightSums o a s xs sums → short (sums .x) + short (sums .y) + short (sums .z) < 2 ^ 96
-  total-small {o} is =
+  -- what u′ and v′ are divided by is a number of 96 bits
+  divisor-small : {o : ℕ} {sums : Sums} → LightSums o a s xs sums → uvDivisor (short (sums .x)) (short (sums .y)) (short (sums .z)) < 2 ^ 96
+  divisor-small {o} is =
       let high = step-small in
       let small = weighed-small a s xs (sought .0) (within a s xs (light .fine)) in
       let x = small (curvesOf o .x) in
       let y = small (curvesOf o .y) in
       let z = small (curvesOf o .z) in
       rw (is .x, is .y, is .z) (omega arith)
+
+  -- and so is the sum of its three sums
+  pub total-small : {o : ℕ} {sums : Sums} → LightSums o a s xs sums → short (sums .x) + short (sums .y) + short (sums .z) < 2 ^ 96
+  total-small is = let small = divisor-small is in omega arith
 
   -- and each of the three gives millilux of 32 bits
   pub xyz-fit :
@@ -66,10 +71,10 @@ module _ {a s : ℕ} {xs : List ℕ} (light : AcceptedLight a s xs) where
 pub light-of : (o a s : ℕ) (xs : List ℕ) → colourCheck o a s xs ≡ Fine → AcceptedLight a s xs
 light-of o a s xs fine = record { fine = passed (isObserver o) (lightCheck a s xs) (refusal OBSERVER 0) fine .1 }
 
-pub short-total : (o a s : ℕ) (xs : List ℕ) (answer : SumsAnswer) → LightSummed o a s xs answer → ShortTotal answer
-short-total o a s xs answer is sums e =
+pub short-divisors : (o a s : ℕ) (xs : List ℕ) (answer : SumsAnswer) → LightSummed o a s xs answer → ShortDivisors answer
+short-divisors o a s xs answer is sums e =
     let given = given-sums (colourCheck o a s xs) o _ answer is sums e in
-    total-small (light-of o a s xs (given .0)) (given .1)
+    divisor-small (light-of o a s xs (given .0)) (given .1)
 
 -- an accepted light, and where its part begins
 pub record BegunLight (a s : ℕ) (xs : List ℕ) (b : Begin) : Type 0 where

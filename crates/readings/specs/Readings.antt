@@ -14,8 +14,9 @@ use Rattle.answers.specs.declared.Reading.{Reading}
 use Rattle.answers.specs.declared.Xyz.{Xyz}
 use Rattle.answers.specs.declared.XyzAnswer.{XyzAnswer}
 use Rattle.answers.specs.declared.XyAnswer.{XyAnswer}
+use Rattle.answers.specs.declared.UvAnswer.{UvAnswer}
 use Rattle.answers.specs.declared.ChartAnswer.{ChartAnswer}
-use Rattle.answers.specs.Worked.{xyFrom, chartFrom}
+use Rattle.answers.specs.Worked.{xyFrom, uvFrom, chartFrom}
 use Rattle.efficacy.specs.Efficacy.{inMillilux, mesopicBracket}
 use Rattle.curves.specs.Observer.{curvesOf}
 use Rattle.readings.specs.declared.figures.ReportFigures.{ReportFigures}
@@ -89,6 +90,10 @@ lightXy o a s xs = xyFrom (xSum o a s xs) (ySum o a s xs) (zSum o a s xs)
 
 unfoldable pub xyOf : ℕ → ℕ → ℕ → List ℕ → XyAnswer
 xyOf o a s xs = unless (colourCheck o a s xs) XyAnswer.Refused (lightXy o a s xs)
+
+-- u′ and v′, from the same
+unfoldable pub uvOf : ℕ → ℕ → ℕ → List ℕ → UvAnswer
+uvOf o a s xs = unless (colourCheck o a s xs) UvAnswer.Refused (uvFrom (xSum o a s xs) (ySum o a s xs) (zSum o a s xs))
 
 -- dark where x and y would be refused DARK; the other refusals hold as for x and y
 unfoldable pub chartOf : ℕ → ℕ → ℕ → List ℕ → ChartAnswer

@@ -1,10 +1,12 @@
-// X, Y, Z, the coordinates x and y, and the chart's point of a light, all from the same three exact sums.
+// X, Y, Z, the coordinates x, y and u′, v′, and the chart's point of a light, all from the same three exact sums.
 use crate::sums::colour_sums;
 use answers::ChartAnswer;
+use answers::UvAnswer;
 use answers::XyAnswer;
 use answers::XyzAnswer;
 use answers::from_sums::SumsAnswer;
 use answers::from_sums::chart_summed;
+use answers::from_sums::uv_summed;
 use answers::from_sums::xy_summed;
 use answers::work::xyz_from;
 use curves::weigh::curves_of;
@@ -17,7 +19,7 @@ use grid::refusals::OBSERVER;
 use grid::refused;
 use spectrum::line::begin_at_360;
 ghost use mathlib.Core.Path.{_≡_};
-ghost use Rattle.readings.specs.Readings.{colourCheck, xyzOf, xyOf, chartOf};
+ghost use Rattle.readings.specs.Readings.{colourCheck, xyzOf, xyOf, uvOf, chartOf};
 ghost use Rattle.readings.specs.Sums.{LightSummed};
 
 // X, Y and Z in millilux.
@@ -41,6 +43,13 @@ pub fn xy(observer: u32, start: u32, step: u32, samples: &[u32]) -> XyAnswer
     ensures { λ r. ⌜ r ≡ xyOf observer start step (now (samples .entry)) ⌝ }
 {
     xy_summed(light_sums(observer, start, step, samples))
+}
+
+// u′ and v′ in hundred-thousandths.
+pub fn uv(observer: u32, start: u32, step: u32, samples: &[u32]) -> UvAnswer
+    ensures { λ r. ⌜ r ≡ uvOf observer start step (now (samples .entry)) ⌝ }
+{
+    uv_summed(light_sums(observer, start, step, samples))
 }
 
 // The chart's point, or dark.

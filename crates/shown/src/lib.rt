@@ -2,6 +2,7 @@
 use answers::ChartAnswer;
 use answers::OnChart;
 use answers::Reading;
+use answers::UvAnswer;
 use answers::XyAnswer;
 use answers::XyzAnswer;
 use grid::Refusal;
@@ -60,6 +61,17 @@ pub fn xy(answer: XyAnswer) {
     }
 }
 
+pub fn uv(answer: UvAnswer) {
+    space();
+    match answer {
+        UvAnswer::Value(v) => {
+            number(v.u);
+            also(v.v);
+        }
+        UvAnswer::Refused(refusal) => refused(refusal),
+    }
+}
+
 pub fn chart(answer: ChartAnswer) {
     space();
     match answer {
@@ -72,13 +84,19 @@ fn on_chart(place: OnChart) {
     match place {
         OnChart::Point(point) => {
             bits(point.x);
-            io::write_all(STDOUT_FILENO, b",");
-            bits(point.y);
+            also_bits(point.y);
+            also_bits(point.u);
+            also_bits(point.v);
         }
         OnChart::Dark => {
             io::write_all(STDOUT_FILENO, b"dark");
         }
     }
+}
+
+fn also_bits(x: f64) {
+    io::write_all(STDOUT_FILENO, b",");
+    bits(x);
 }
 
 // The 64 bits of a coordinate, as a number. No coordinate is above 1, and what is no number is not below it either.

@@ -47,39 +47,84 @@ fn half(random: &mut Random, fraction: &Fraction) -> Option<Vec<u32>> {
     None
 }
 
-/// A light of two samples whose x or y is an odd number of sixty-fourths, so 1562.5 times it.
+/// How often X, Y and Z count in a coordinate's numerator, and in its divisor.
+#[derive(Clone, Copy)]
+struct Coordinate {
+    numerator: [i128; 3],
+    divisor: [i128; 3],
+}
+
+/// x, y, u' and v'.
+const COORDINATES: [Coordinate; 4] = [
+    Coordinate {
+        numerator: [1, 0, 0],
+        divisor: [1, 1, 1],
+    },
+    Coordinate {
+        numerator: [0, 1, 0],
+        divisor: [1, 1, 1],
+    },
+    Coordinate {
+        numerator: [4, 0, 0],
+        divisor: [1, 15, 3],
+    },
+    Coordinate {
+        numerator: [0, 9, 0],
+        divisor: [1, 15, 3],
+    },
+];
+
+/// A light of two samples one of whose coordinates ends in a half, if one is found.
 pub fn coordinate(random: &mut Random, grid: &Grid, observer: u32) -> Option<Vec<u32>> {
-    let functions = match observer {
-        2 => [&tables::X, &tables::Y, &tables::Z],
-        _ => [&tables::X10, &tables::Y10, &tables::Z10],
+    let coordinate = random.pick(&COORDINATES);
+    let samples = (0..TRIES).find_map(|_| sixty_fourths(random, grid, observer, coordinate))?;
+    Some(nudged(random, samples))
+}
+
+/// A light of two samples whose coordinate is an odd number of sixty-fourths, so 1562.5 times it.
+fn sixty_fourths(
+    random: &mut Random,
+    grid: &Grid,
+    observer: u32,
+    coordinate: Coordinate,
+) -> Option<Vec<u32>> {
+    let odd = i128::from(2 * random.within(0..=31) + 1);
+    // How far a unit of the sample pulls the coordinate from odd/64.
+    let pull = |wavelength: u32| {
+        let weights = weights(observer, wavelength);
+        64 * counted(coordinate.numerator, weights) - odd * counted(coordinate.divisor, weights)
     };
+    // Round wavelengths have short weights, whose pulls cancel at small samples.
+    let [first, second] = [(); 2].map(|()| 10 * random.within(36..=83));
+    let (up, down) = (pull(first), pull(second));
+    if up <= 0 || down >= 0 {
+        return None;
+    }
+    let (up, down) = (up.unsigned_abs(), down.unsigned_abs());
+    let common = gcd(up, down);
     // A sample at an end is carried, so it pulls at other wavelengths too.
     let inner = |wavelength| {
         grid.place(wavelength)
             .filter(|place| (1..grid.count - 1).contains(place))
     };
-    (0..TRIES).find_map(|_| {
-        let chosen = random.pick(&functions[..2]);
-        let odd = i128::from(2 * random.within(0..=31) + 1);
-        // How far a unit of the sample pulls the coordinate from odd/64.
-        let pull = |wavelength: u32| {
-            let row = (wavelength - FIRST) as usize;
-            let total: i128 = functions.iter().map(|table| i128::from(table[row])).sum();
-            64 * i128::from(chosen[row]) - odd * total
-        };
-        // Round wavelengths have short weights, whose pulls cancel at small samples.
-        let [first, second] = [(); 2].map(|()| 10 * random.within(36..=83));
-        let (up, down) = (pull(first), pull(second));
-        if up <= 0 || down >= 0 {
-            return None;
-        }
-        let (up, down) = (up.unsigned_abs(), down.unsigned_abs());
-        let divisor = gcd(up, down);
-        let mut samples = vec![0; grid.count];
-        samples[inner(first)?] = small(down / divisor)?;
-        samples[inner(second)?] = small(up / divisor)?;
-        Some(nudged(random, samples))
-    })
+    let mut samples = vec![0; grid.count];
+    samples[inner(first)?] = small(down / common)?;
+    samples[inner(second)?] = small(up / common)?;
+    Some(samples)
+}
+
+/// The observer's three weights at a wavelength.
+fn weights(observer: u32, wavelength: u32) -> [i128; 3] {
+    let functions = match observer {
+        2 => [&tables::X, &tables::Y, &tables::Z],
+        _ => [&tables::X10, &tables::Y10, &tables::Z10],
+    };
+    functions.map(|table| i128::from(table[(wavelength - FIRST) as usize]))
+}
+
+/// Each so often.
+fn counted(often: [i128; 3], each: [i128; 3]) -> i128 {
+    (0..3).map(|i| often[i] * each[i]).sum()
 }
 
 fn small(sample: u128) -> Option<u32> {
@@ -140,5 +185,32 @@ mod tests {
             found += 1;
         }
         assert!(found > 150, "only {found} of 200");
+    }
+
+    #[test]
+    fn the_halves_of_coordinates_are_exact() {
+        let mut random = Random::new(1);
+        for coordinate in COORDINATES {
+            let mut found = 0;
+            for turn in 0..200 {
+                let grid = Grid::of_step(&mut random, 1);
+                let observer = [2, 10][turn % 2];
+                let light = (0..TRIES)
+                    .find_map(|_| sixty_fourths(&mut random, &grid, observer, coordinate));
+                let Some(samples) = light else {
+                    continue;
+                };
+                let mut sums = [0; 3];
+                for (place, &sample) in samples.iter().enumerate().filter(|(_, &lit)| lit > 0) {
+                    let weights = weights(observer, grid.start + place as u32);
+                    sums = [0, 1, 2].map(|i| sums[i] + i128::from(sample) * weights[i]);
+                }
+                let divisor = counted(coordinate.divisor, sums);
+                let doubled = 200_000 * counted(coordinate.numerator, sums);
+                assert_eq!(doubled % (2 * divisor), divisor);
+                found += 1;
+            }
+            assert!(found > 150, "only {found} of 200");
+        }
     }
 }

@@ -1,7 +1,8 @@
 //! Answers laid flat, as the C boundary has them: a refusal gives its number and place, else 0.
 
+use super::line::{coordinates, uv_coordinates};
 use super::refusal::Refusal;
-use crate::answers::{ChartAnswer, Reading, XyAnswer, XyzAnswer};
+use crate::answers::{ChartAnswer, Reading, UvAnswer, XyAnswer, XyzAnswer};
 
 pub fn reading(answer: Result<u32, Refusal>) -> Reading {
     match answer {
@@ -48,18 +49,43 @@ pub fn xy_answer(answer: Result<[u32; 2], Refusal>) -> XyAnswer {
     }
 }
 
-/// The chart answer: refused as x and y are, 9 where dark.
-pub fn chart_answer(answer: Result<[u32; 2], Refusal>) -> ChartAnswer {
+pub fn uv_answer(answer: Result<[u32; 2], Refusal>) -> UvAnswer {
     match answer {
-        Ok([x, y]) => ChartAnswer {
-            x: f64::from(x) / 100000.0,
-            y: f64::from(y) / 100000.0,
+        Ok([u, v]) => UvAnswer {
+            u,
+            v,
             ..Default::default()
         },
+        Err(Refusal { number, place }) => UvAnswer {
+            number,
+            place,
+            ..Default::default()
+        },
+    }
+}
+
+/// The chart answer from the three exact sums: refused as x and y are, 9 where dark.
+pub fn chart_answer(sums: Result<[u128; 3], Refusal>) -> ChartAnswer {
+    match sums.and_then(four_coordinates) {
+        Ok(coordinates) => {
+            let [x, y, u, v] = coordinates.map(|each| f64::from(each) / 100000.0);
+            ChartAnswer {
+                x,
+                y,
+                u,
+                v,
+                ..Default::default()
+            }
+        }
         Err(Refusal { number, place }) => ChartAnswer {
             number,
             place,
             ..Default::default()
         },
     }
+}
+
+fn four_coordinates(sums: [u128; 3]) -> Result<[u32; 4], Refusal> {
+    let ([x, y], [u, v]) = (coordinates(sums)?, uv_coordinates(sums)?);
+    Ok([x, y, u, v])
 }

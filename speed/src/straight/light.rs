@@ -1,9 +1,11 @@
 //! The readings of a light.
 
-use super::flat::{chart_answer, reading, xy_answer, xyz_answer};
-use super::line::{coordinates, coordinates_or_dark, functions, line, nearest, weigh};
+use super::flat::{chart_answer, reading, uv_answer, xy_answer, xyz_answer};
+use super::line::{
+    coordinates, coordinates_or_dark, functions, line, nearest, uv_coordinates, weigh,
+};
 use super::refusal::{check_grid, check_samples, Refusal, MESOPIC};
-use crate::answers::{ChartAnswer, FiguresAnswer, Reading, XyAnswer, XyzAnswer};
+use crate::answers::{ChartAnswer, FiguresAnswer, Reading, UvAnswer, XyAnswer, XyzAnswer};
 use crate::tables::{at_reference, Table, V_PRIME, Y, Y10};
 
 pub fn photopic(start: u32, step: u32, samples: &[u32]) -> Reading {
@@ -27,11 +29,15 @@ pub fn xyz(observer: u32, start: u32, step: u32, samples: &[u32]) -> XyzAnswer {
 }
 
 pub fn xy(observer: u32, start: u32, step: u32, samples: &[u32]) -> XyAnswer {
-    xy_answer(chromaticity(observer, start, step, samples))
+    xy_answer(sums(observer, start, step, samples).and_then(coordinates))
+}
+
+pub fn uv(observer: u32, start: u32, step: u32, samples: &[u32]) -> UvAnswer {
+    uv_answer(sums(observer, start, step, samples).and_then(uv_coordinates))
 }
 
 pub fn chart(observer: u32, start: u32, step: u32, samples: &[u32]) -> ChartAnswer {
-    chart_answer(chromaticity(observer, start, step, samples))
+    chart_answer(sums(observer, start, step, samples))
 }
 
 /// The seven figures of the report, observer 2, with one T for all.
@@ -95,18 +101,14 @@ fn mixed(k: u32, start: u32, step: u32, samples: &[u32]) -> Result<u32, Refusal>
 }
 
 fn tristimulus(observer: u32, start: u32, step: u32, samples: &[u32]) -> Result<[u32; 3], Refusal> {
-    let functions = functions(observer)?;
-    let line = checked_line(start, step, samples)?;
-    Ok(functions.map(|weights| millilux(weigh(weights, &line), functions[1], step)))
+    let [_, y_weights, _] = functions(observer)?;
+    let sums = sums(observer, start, step, samples)?;
+    Ok(sums.map(|sum| millilux(sum, y_weights, step)))
 }
 
-fn chromaticity(
-    observer: u32,
-    start: u32,
-    step: u32,
-    samples: &[u32],
-) -> Result<[u32; 2], Refusal> {
+/// The light's exact X, Y and Z sums, or the first of 6, 1, 2, 3, 4.
+fn sums(observer: u32, start: u32, step: u32, samples: &[u32]) -> Result<[u128; 3], Refusal> {
     let functions = functions(observer)?;
     let line = checked_line(start, step, samples)?;
-    coordinates(functions.map(|weights| weigh(weights, &line)))
+    Ok(functions.map(|weights| weigh(weights, &line)))
 }

@@ -54,11 +54,19 @@ pub fn coordinates_or_dark(sums: [u128; 3]) -> (u32, [u32; 2]) {
 }
 
 /// x and y from the three exact sums, or 9.
-pub fn coordinates(sums: [u128; 3]) -> Result<[u32; 2], Refusal> {
-    let [x, y, z] = sums;
-    let total = x + y + z;
-    if total == 0 {
-        return Err(DARK);
+pub fn coordinates([x, y, z]: [u128; 3]) -> Result<[u32; 2], Refusal> {
+    over([x, y], x + y + z)
+}
+
+/// u' and v' from the three exact sums, or 9.
+pub fn uv_coordinates([x, y, z]: [u128; 3]) -> Result<[u32; 2], Refusal> {
+    over([4 * x, 9 * y], x + 15 * y + 3 * z)
+}
+
+/// Two parts of a divisor in hundred-thousandths, or 9 where it is 0.
+fn over(parts: [u128; 2], divisor: u128) -> Result<[u32; 2], Refusal> {
+    match divisor {
+        0 => Err(DARK),
+        _ => Ok(parts.map(|part| nearest(100_000 * part, divisor))),
     }
-    Ok([nearest(100_000 * x, total), nearest(100_000 * y, total)])
 }

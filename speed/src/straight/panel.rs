@@ -1,9 +1,11 @@
 //! The readings of a panel.
 
-use super::flat::{chart_answer, xy_answer, xyz_answer};
-use super::line::{coordinates, coordinates_or_dark, functions, line, nearest, weigh};
+use super::flat::{chart_answer, uv_answer, xy_answer, xyz_answer};
+use super::line::{
+    coordinates, coordinates_or_dark, functions, line, nearest, uv_coordinates, weigh,
+};
 use super::refusal::{check_each, check_grid, Refusal, ILLUMINANT, REFLECTANCE};
-use crate::answers::{ChartAnswer, PanelFiguresAnswer, XyAnswer, XyzAnswer};
+use crate::answers::{ChartAnswer, PanelFiguresAnswer, UvAnswer, XyAnswer, XyzAnswer};
 use crate::tables::{Table, A, D65};
 
 const LARGEST_REFLECTANCE: u16 = 10_000;
@@ -29,6 +31,17 @@ pub fn panel_xy(
     xy_answer(sums.and_then(coordinates))
 }
 
+pub fn panel_uv(
+    observer: u32,
+    illuminant: u32,
+    start: u32,
+    step: u32,
+    reflectances: &[u16],
+) -> UvAnswer {
+    let sums = sums(observer, illuminant, start, step, reflectances);
+    uv_answer(sums.and_then(uv_coordinates))
+}
+
 pub fn panel_chart(
     observer: u32,
     illuminant: u32,
@@ -36,8 +49,7 @@ pub fn panel_chart(
     step: u32,
     reflectances: &[u16],
 ) -> ChartAnswer {
-    let sums = sums(observer, illuminant, start, step, reflectances);
-    chart_answer(sums.and_then(coordinates))
+    chart_answer(sums(observer, illuminant, start, step, reflectances))
 }
 
 /// X, Y, Z and x, y of one panel: T is made once, and both come from the same three sums.

@@ -2,7 +2,7 @@
 use mathlib.Core.Path.{_∙_}
 use Rattle.answers.proofs.FromSums.{from-sums}
 use Rattle.panel.specs.Panel.{panelXyOf}
-use Rattle.panel.proofs.Worked.{short-total}
+use Rattle.panel.proofs.Worked.{short-divisors}
 use borrow.Author.Needs.{needs}
 use Rattle.panel.proofs.panel_xy.Statement.{statement}
 use Rattle.panel.proofs.panel_xy.Tie as tie
@@ -10,7 +10,7 @@ use Rattle.panel.proofs.panel_xy.Tie as tie
 xy-summed-requires : tie.Need-xy-summed-requires
 xy-summed-requires c κs =
     let t = c .before .before .args in
-    short-total (t .observer) (t .illuminant) (t .start) (t .step) (t .reflectances .now) (c .panel-sums .result) (c .panel-sums .ensures)
+    short-divisors (t .observer) (t .illuminant) (t .start) (t .step) (t .reflectances .now) (c .panel-sums .result) (c .panel-sums .ensures)
 
 returns : tie.Need-returns
 unfolding panelXyOf

@@ -73,6 +73,7 @@ fn compare_light(mut check: Check, light: &Light) -> Result<(), Difference> {
     same!("qr_mesopic", mesopic(k, start, step));
     same!("qr_xyz", xyz(observer, start, step));
     same!("qr_xy", xy(observer, start, step));
+    same!("qr_uv", uv(observer, start, step));
     same!("qr_chart", chart(observer, start, step));
     same!("qr_figures", figures(start, step));
     compare_write(check, light, &lent)
@@ -112,6 +113,7 @@ fn compare_panel(mut check: Check, panel: &Panel) -> Result<(), Difference> {
     }
     same!("qr_panel_xyz", panel_xyz);
     same!("qr_panel_xy", panel_xy);
+    same!("qr_panel_uv", panel_uv);
     same!("qr_panel_chart", panel_chart);
     same!("qr_panel_figures", panel_figures);
     Ok(())
@@ -149,6 +151,7 @@ fn compare_overlong() -> Result<(), Difference> {
         ffi::mesopic(500, start, step, &samples).number,
         ffi::xyz(2, start, step, &samples).number,
         ffi::xy(2, start, step, &samples).number,
+        ffi::uv(2, start, step, &samples).number,
         ffi::chart(2, start, step, &samples).number,
         ffi::figures(start, step, &samples).number,
         ffi::write_record(start, step, &samples, &mut [0; 2000]).number,
@@ -158,10 +161,11 @@ fn compare_overlong() -> Result<(), Difference> {
     let panel_numbers = [
         ffi::panel_xyz(2, 1, start, step, &reflectances).number,
         ffi::panel_xy(2, 1, start, step, &reflectances).number,
+        ffi::panel_uv(2, 1, start, step, &reflectances).number,
         ffi::panel_chart(2, 1, start, step, &reflectances).number,
         ffi::panel_figures(2, 1, start, step, &reflectances).number,
     ];
-    if numbers != [3; 9] || panel_numbers != [3; 4] {
+    if numbers != [3; 10] || panel_numbers != [3; 5] {
         return Err(format!(
             "{COUNT} samples at step 10 are not refused 3 everywhere: {numbers:?} {panel_numbers:?}"
         ));

@@ -4,8 +4,16 @@ use Rattle.answers.proofs.chart.chart_point.Statement.{statement}
 use Rattle.answers.proofs.chart.chart_point.Tie as tie
 
 returns : tie.Need-returns
-returns c = rw (c .before .coordinate-float .ensures, c .coordinate-float2 .ensures)
+returns c =
+    let v = c .before in
+    rw (
+      v .before .before .coordinate-float .ensures,
+      v .before .coordinate-float2 .ensures,
+      v .coordinate-float3 .ensures,
+      c .coordinate-float4 .ensures,
+    )
 
 pub chart-point-spec : {M : Type 1} → statement M
 chart-point-spec =
-    tie.close (tie.spec (λ c κs. search needs) (λ c κs. search needs) returns)
+    tie.close
+    (tie.spec (λ c κs. search needs) (λ c κs. search needs) (λ c κs. search needs) (λ c κs. search needs) returns)

@@ -1,11 +1,12 @@
 -- The two arms are those of fromSums.
 use Rattle.answers.specs.FromSums.{fromSums}
+use native.Mathlib.Omega.{arith}
 use borrow.Author.Needs.{needs}
 use Rattle.answers.proofs.from_sums.xy_summed.Statement.{statement}
 use Rattle.answers.proofs.from_sums.xy_summed.Tie as tie
 
 xy-from-requires : tie.Need-xy-from-requires
-xy-from-requires c κs = c .before .before .before .pre _ (c .before .answer .given .1)
+xy-from-requires c κs = let small = c .before .before .before .pre _ (c .before .answer .given .1) in omega arith
 
 returns : tie.Need-returns
 unfolding fromSums

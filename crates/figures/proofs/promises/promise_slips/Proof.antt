@@ -8,9 +8,9 @@ use Rattle.mixing.specs.Sum.{total, weighted}
 use Rattle.tables.specs.Tables.{xBar, yBar, zBar}
 use Rattle.tables.specs.Curves.{table}
 use Rattle.spectrum.specs.Line.{T, lineAt, endRule, W}
-use Rattle.answers.specs.Worked.{xyFrom}
+use Rattle.answers.specs.Worked.{xyFrom, uvFrom}
 use Rattle.efficacy.specs.Efficacy.{atReference}
-use Rattle.readings.specs.Readings.{illuminanceOf, xyzOf, xyOf}
+use Rattle.readings.specs.Readings.{illuminanceOf, xyzOf, xyOf, uvOf}
 use Rattle.grid.specs.Said.{value}
 use Rattle.figures.specs.Asked.{Asked, answerOf}
 use Rattle.figures.specs.Slips.{filledDown}
@@ -23,9 +23,10 @@ apart : {version slip ours i : ℕ} {asked : Asked} → version ≡ slip → val
 apart p q unlike = record { gives = p; is = q; not-ours = λ e. unlike (sym p ∙ e ∙ q) }
 
 returns : tie.Need-returns
-unfolding answerOf filledDown illuminanceOf xyzOf xyOf xyFrom lightCheck gridCheck limitCheck W weighted total T lineAt endRule atReference table xBar yBar zBar nearest
+unfolding answerOf filledDown illuminanceOf xyzOf xyOf uvOf xyFrom uvFrom lightCheck gridCheck limitCheck W weighted total T lineAt endRule atReference table xBar yBar zBar nearest
 returns c = record {
   x-from-rounded = apart refl refl (λ e. omega arith);
+  u-from-rounded = apart refl refl (λ e. omega arith);
   each-rounded = apart refl refl (λ e. omega arith);
   at-samples = apart refl refl (λ e. omega arith);
   divided-early = apart refl refl (λ e. omega arith);

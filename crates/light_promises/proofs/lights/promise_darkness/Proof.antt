@@ -1,9 +1,9 @@
 -- With no light where a curve has any weight, its sum is 0.
 use mathlib.Core.Path.{ap}
 use Rattle.tables.specs.declared.Curve.the-variants.{YBar, VPrime, YBar10}
-use Rattle.answers.specs.Said.{saidReading, saidXyz, saidXy, saidChart}
+use Rattle.answers.specs.Said.{saidReading, saidXyz, saidXy, saidUv, saidChart}
 use Rattle.readings.specs.Figures.{saidFigures}
-use Rattle.light_promises.proofs.Unlit.{zeros-accepted, zeros, unfelt, no-illuminance, no-mesopic, no-xyz, no-xy, no-point, no-figures}
+use Rattle.light_promises.proofs.Unlit.{zeros-accepted, zeros, unfelt, no-illuminance, no-mesopic, no-xyz, no-xy, no-uv, no-point, no-figures}
 use Rattle.light_promises.proofs.lights.promise_darkness.Statement.{statement}
 use Rattle.light_promises.proofs.lights.promise_darkness.Tie as tie
 
@@ -19,6 +19,7 @@ returns c =
       mesopic = λ k a s xs h f u v. ap saidReading (no-mesopic a s xs f k h u v);
       xyz = λ o a s xs e f u. ap saidXyz (no-xyz a s xs f o e u);
       xy = λ o a s xs e f u. ap saidXy (no-xy a s xs f o e u);
+      uv = λ o a s xs e f u. ap saidUv (no-uv a s xs f o e u);
       chart = λ o a s xs e f u. ap saidChart (no-point a s xs f o e u);
       figures = λ a s xs f u v. ap saidFigures (no-figures a s xs f u v);
     }

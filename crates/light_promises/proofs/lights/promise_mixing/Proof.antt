@@ -1,6 +1,6 @@
 -- Each sum is linear in the samples, so the laws of mixed light hold of each reading.
 use Rattle.tables.specs.declared.Curve.the-variants.{YBar, VPrime, YBar10}
-use Rattle.light_promises.proofs.Instances.{mixture-accepted, illuminance-unit, mesopic-unit, xyz-mixed, between, one-dark}
+use Rattle.light_promises.proofs.Instances.{mixture-accepted, illuminance-unit, mesopic-unit, xyz-mixed, between, one-dark, uv-between, uv-one-dark}
 use Rattle.light_promises.proofs.lights.promise_mixing.Statement.{statement}
 use Rattle.light_promises.proofs.lights.promise_mixing.Tie as tie
 
@@ -15,6 +15,8 @@ returns c =
       xyz = xyz-mixed;
       between = between;
       one-dark = one-dark;
+      uv-between = uv-between;
+      uv-one-dark = uv-one-dark;
     }
 
 pub promise-mixing-spec : {M : Type 1} → statement M

@@ -1,10 +1,22 @@
 -- A white panel's sums are the greatest, and sums are linear in the reflectances.
 use Rattle.light_promises.proofs.White.{is-given, at-most, white, grey, xy-given, figures-given, order}
+use Rattle.light_promises.proofs.Refused.{panel-uv, panel-chart}
 use Rattle.light_promises.proofs.panels.promise_panels.Statement.{statement}
 use Rattle.light_promises.proofs.panels.promise_panels.Tie as tie
 
 returns : tie.Need-returns
-returns c = record { is-given = is-given; at-most = at-most; white = white; grey = grey; xy = xy-given; figures = figures-given; order = order }
+returns c =
+    record {
+      is-given = is-given;
+      at-most = at-most;
+      white = white;
+      grey = grey;
+      xy = xy-given;
+      figures = figures-given;
+      uv-refused = panel-uv;
+      chart-refused = panel-chart;
+      order = order;
+    }
 
 pub promise-panels-spec : {M : Type 1} → statement M
 promise-panels-spec = tie.close (tie.spec returns)

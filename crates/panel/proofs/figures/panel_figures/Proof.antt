@@ -1,4 +1,5 @@
 -- X, Y, Z and x, y come from the same sums of an accepted panel.
+use native.Mathlib.Omega.{arith}
 use Rattle.answers.proofs.FromSums.{refused-sums}
 use Rattle.panel.specs.Figures.{panelFiguresOf}
 use Rattle.panel.proofs.Worked.{Worked, worked}
@@ -23,7 +24,7 @@ xyz-from-requires : tie.Need-xyz-from-requires
 xyz-from-requires c κs = rw (c .divisor .ensures) (work (c .before) .fits)
 
 xy-from-requires : tie.Need-xy-from-requires
-xy-from-requires c κs = work (c .before .before) .total-small
+xy-from-requires c κs = let small = work (c .before .before) .divisor-small in omega arith
 
 returns : tie.Need-returns
 unfolding panelFiguresOf

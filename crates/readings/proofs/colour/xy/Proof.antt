@@ -2,7 +2,7 @@
 use mathlib.Core.Path.{_∙_}
 use Rattle.answers.proofs.FromSums.{from-sums}
 use Rattle.readings.specs.Readings.{xyOf}
-use Rattle.readings.proofs.Part.{short-total}
+use Rattle.readings.proofs.Part.{short-divisors}
 use borrow.Author.Needs.{needs}
 use Rattle.readings.proofs.colour.xy.Statement.{statement}
 use Rattle.readings.proofs.colour.xy.Tie as tie
@@ -10,7 +10,7 @@ use Rattle.readings.proofs.colour.xy.Tie as tie
 xy-summed-requires : tie.Need-xy-summed-requires
 xy-summed-requires c κs =
     let t = c .before .before .args in
-    short-total (t .observer) (t .start) (t .step) (t .samples .now) (c .light-sums .result) (c .light-sums .ensures)
+    short-divisors (t .observer) (t .start) (t .step) (t .samples .now) (c .light-sums .result) (c .light-sums .ensures)
 
 returns : tie.Need-returns
 unfolding xyOf
