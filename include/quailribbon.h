@@ -65,8 +65,8 @@ qr_reading qr_scotopic(uint32_t start, uint32_t step, const uint32_t *samples, s
 qr_reading qr_photopic_10(uint32_t start, uint32_t step, const uint32_t *samples, size_t count);
 qr_reading qr_mesopic(uint32_t k, uint32_t start, uint32_t step, const uint32_t *samples, size_t count);
 
-/* X, Y, Z in millilux; x, y and u', v' in hundred-thousandths; the chart's point, which has all four as floats. All but X, Y, Z are
-   refused alike, DARK too. Observer 2 or 10. */
+/* X, Y, Z in millilux; x, y and u', v' in hundred-thousandths; the chart's point, which is these four as floats. All but X, Y, Z
+   are DARK where the three exact sums are 0. Observer 2 or 10. */
 qr_xyz_answer qr_xyz(uint32_t observer, uint32_t start, uint32_t step, const uint32_t *samples, size_t count);
 qr_xy_answer qr_xy(uint32_t observer, uint32_t start, uint32_t step, const uint32_t *samples, size_t count);
 qr_uv_answer qr_uv(uint32_t observer, uint32_t start, uint32_t step, const uint32_t *samples, size_t count);

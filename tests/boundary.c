@@ -30,6 +30,8 @@ static void lights(void) {
     expect("qr_xy", xy.number == 0 && xy.x == 14396 && xy.y == 2970);
     qr_uv_answer uv = qr_uv(2, 380, 1, samples, 401);
     expect("qr_uv", uv.number == 0 && uv.place == 0 && uv.u == 18766 && uv.v == 8712);
+    uv = qr_uv(10, 380, 1, samples, 401);
+    expect("qr_uv for observer 10", uv.number == 0 && uv.u == 16205 && uv.v == 15464);
     qr_chart_answer chart = qr_chart(2, 380, 1, samples, 401);
     expect("qr_chart", chart.number == 0 && chart.place == 0 && chart.x == 14396 / 100000.0 && chart.y == 2970 / 100000.0 &&
                            chart.u == 18766 / 100000.0 && chart.v == 8712 / 100000.0);
@@ -47,6 +49,8 @@ static void panels(void) {
     expect("qr_panel_xy", xy.number == 0 && xy.x == 31273 && xy.y == 32902);
     qr_uv_answer uv = qr_panel_uv(2, 2, 360, 1, white, 471);
     expect("qr_panel_uv", uv.number == 0 && uv.place == 0 && uv.u == 19784 && uv.v == 46834);
+    uv = qr_panel_uv(10, 1, 360, 1, white, 471);
+    expect("qr_panel_uv for observer 10, under A", uv.number == 0 && uv.u == 25896 && uv.v == 52425);
     qr_chart_answer chart = qr_panel_chart(2, 2, 360, 1, white, 471);
     expect("qr_panel_chart", chart.number == 0 && chart.place == 0 && chart.x == 31273 / 100000.0 && chart.y == 32902 / 100000.0 &&
                                  chart.u == 19784 / 100000.0 && chart.v == 46834 / 100000.0);
@@ -85,6 +89,9 @@ static void refusals(void) {
     expect("MESOPIC", qr_mesopic(1001, 380, 1, samples, 401).number == QR_MESOPIC);
     expect("OBSERVER", qr_xyz(3, 380, 1, samples, 401).number == QR_OBSERVER);
     expect("COUNT", qr_figures(380, 1, samples, 400).number == QR_COUNT);
+    qr_chart_answer no_chart = qr_chart(3, 380, 1, samples, 401);
+    expect("OBSERVER of a chart", no_chart.number == QR_OBSERVER && no_chart.place == 0 && no_chart.x == 0.0 &&
+                                      no_chart.y == 0.0 && no_chart.u == 0.0 && no_chart.v == 0.0);
     samples[80] = 0;
     expect("DARK", qr_xy(2, 380, 1, samples, 401).number == QR_DARK);
     qr_uv_answer no_uv = qr_uv(2, 380, 1, samples, 401);

@@ -82,6 +82,7 @@ class Lights(Case):
         self.assertEqual(quailribbon.xy(10, 380, 1, example()), (13892, 5892))
         self.assertEqual(quailribbon.uv(2, 380, 1, example()), (18766, 8712))
         self.assertEqual(quailribbon.uv(10, 380, 1, example()), (16205, 15464))
+        self.assertEqual(quailribbon.uv(2, 380, 1, example()).v, 8712)
         point = quailribbon.chart(2, 380, 1, example())
         self.assertEqual(point, (14396 / 100000, 2970 / 100000, 18766 / 100000, 8712 / 100000))
         self.assertEqual((point.y, point.u, point.v), (0.0297, 0.18766, 0.08712))

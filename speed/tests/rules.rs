@@ -20,7 +20,7 @@ fn chromaticity_of(lit: &[(usize, u32)]) -> (u32, u32) {
     (answer.x, answer.y)
 }
 
-fn uniform_of(lit: &[(usize, u32)]) -> (u32, u32) {
+fn uv_of(lit: &[(usize, u32)]) -> (u32, u32) {
     let answer = uv(2, 380, 1, &light(lit));
     (answer.u, answer.v)
 }
@@ -103,7 +103,7 @@ fn p6_p7_p8_mixtures() {
     let both = [(460, 1_000_000), (485, 1_000_000)];
     assert_eq!(photopic_of(&both), 156612);
     assert_eq!(chromaticity_of(&both), (12179, 8008));
-    assert_eq!(uniform_of(&both), (13105, 19388));
+    assert_eq!(uv_of(&both), (13105, 19388));
     assert_eq!(photopic_of(&[(460, 50_000)]), 2049);
 }
 
@@ -119,16 +119,16 @@ fn p9_white_panels() {
     let figures = panel_figures(2, 2, 360, 1, &white);
     assert_eq!([figures.X, figures.Y, figures.Z], of(2));
     assert_eq!([figures.xy_number, figures.x, figures.y], [0, 31273, 32902]);
-    let uniform = |observer, illuminant| {
+    let white_uv = |observer, illuminant| {
         let answer = panel_uv(observer, illuminant, 360, 1, &white);
         [answer.u, answer.v]
     };
     assert_eq!(
-        [uniform(2, 1), uniform(2, 2)],
+        [white_uv(2, 1), white_uv(2, 2)],
         [[25597, 52429], [19784, 46834]]
     );
     assert_eq!(
-        [uniform(10, 1), uniform(10, 2)],
+        [white_uv(10, 1), white_uv(10, 2)],
         [[25896, 52425], [19786, 46955]]
     );
 }

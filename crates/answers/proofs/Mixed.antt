@@ -6,12 +6,13 @@ use native.Mathlib.Omega.{arith}
 use lib.ListN.{length, getD}
 use Rattle.mixing.specs.Nearest.{nearest}
 use Rattle.mixing.specs.Mixture.{mix, Below, Linear}
-use Rattle.mixing.specs.Promises.{Differ, Between}
+use Rattle.mixing.specs.Promises.{Differ, Between, Coordinate}
 use Rattle.mixing.proofs.Mixture.{linear-times}
 use Rattle.mixing.proofs.Illuminance.{illuminance}
 use Rattle.mixing.proofs.Coordinate.{between}
 use Rattle.grid.specs.Refusals.{DARK}
 use Rattle.grid.specs.Said.{Said, value}
+use Rattle.answers.specs.Worked.{inHundredThousandths}
 use Rattle.answers.proofs.Values.{eachOver, saidOver, over-lit, over-given, over-dark}
 
 -- each of these sums is linear
@@ -52,13 +53,17 @@ module _ (n : ℕ) (D : List ℕ → ℕ) (den : Linear n D) (xs ys : List ℕ) 
   abbrev said : List (List ℕ → ℕ) → List ℕ → Said
   said Ns zs = saidOver (numerators Ns zs) (D zs)
 
+  coordinate :
+      (N : List ℕ → ℕ) → Linear n N × ((zs : List ℕ) → D zs ≡ 0 → N zs ≡ 0) →
+      Coordinate n D (λ zs. inHundredThousandths (N zs) (D zs))
+  coordinate N l = between n (λ zs. 100000 * N zs) D (linear-times n 100000 N (l .0)) den (λ zs z. omega (arith, l .1 zs z))
+
   each-between :
       0 < D xs → 0 < D ys → (Ns : List (List ℕ → ℕ)) → AllOver n D Ns → (i : ℕ) →
       Between (getD (eachOver (numerators Ns xs) (D xs)) i 0) (getD (eachOver (numerators Ns ys) (D ys)) i 0)
       (getD (eachOver (numerators Ns (mix xs ys)) (D (mix xs ys))) i 0)
   each-between a b [] l i = record { low = omega arith; high = omega arith }
-  each-between a b (N ∷ Ns) l zero =
-      between n (λ zs. 100000 * N zs) D (linear-times n 100000 N (l .0 .0)) den (λ zs z. omega (arith, l .0 .1 zs z)) .two xs ys p q a b
+  each-between a b (N ∷ Ns) l zero = coordinate N (l .0) .two xs ys p q a b
   each-between a b (N ∷ Ns) l (suc i) = each-between a b Ns (l .1) i
 
   pub said-between :
@@ -76,24 +81,30 @@ module _ (n : ℕ) (D : List ℕ → ℕ) (den : Linear n D) (xs ys : List ℕ) 
       )
       (refl, each-between a b Ns l)
 
-  -- a dark part adds nothing to any numerator
   each-dark :
-      D xs ≡ 0 → (Ns : List (List ℕ → ℕ)) → AllOver n D Ns →
-      (numerators Ns (mix xs ys) ≡ numerators Ns ys) × (numerators Ns (mix ys xs) ≡ numerators Ns ys)
-  each-dark z [] l = (refl, refl)
-  each-dark z (N ∷ Ns) l =
-      let none = l .0 .1 xs z in
-      let rest = each-dark z Ns (l .1) in
-      let first : N (mix xs ys) ≡ N ys = omega (arith, l .0 .0 .adds xs ys p q) in
-      let second : N (mix ys xs) ≡ N ys = omega (arith, l .0 .0 .adds ys xs q p) in
-      (rw (first, rest .0), rw (second, rest .1))
+      D xs ≡ 0 → 0 < D ys → (Ns : List (List ℕ → ℕ)) → AllOver n D Ns →
+      (eachOver (numerators Ns (mix xs ys)) (D (mix xs ys)) ≡ eachOver (numerators Ns ys) (D ys))
+      × (eachOver (numerators Ns (mix ys xs)) (D (mix ys xs)) ≡ eachOver (numerators Ns ys) (D ys))
+  each-dark z b [] l = (refl, refl)
+  each-dark z b (N ∷ Ns) l =
+      let first = coordinate N (l .0) .one-dark xs ys p q z b in
+      let rest = each-dark z b Ns (l .1) in
+      (rw (first .0, rest .0), rw (first .1, rest .1))
 
   pub said-one-dark :
-      (Ns : List (List ℕ → ℕ)) → AllOver n D Ns → said Ns xs .number ≡ DARK →
+      (Ns : List (List ℕ → ℕ)) → AllOver n D Ns → said Ns xs .number ≡ DARK → (said Ns ys .number ≡ DARK → ⊥) →
       (said Ns (mix xs ys) ≡ said Ns ys) × (said Ns (mix ys xs) ≡ said Ns ys)
-  said-one-dark Ns l e =
+  said-one-dark Ns l e f =
       let z = over-dark (numerators Ns xs) (D xs) e in
-      let same = each-dark z Ns l in
-      let first : D (mix xs ys) ≡ D ys = omega (arith, den .adds xs ys p q) in
-      let second : D (mix ys xs) ≡ D ys = omega (arith, den .adds ys xs q p) in
-      (rw (same .0, first), rw (same .1, second))
+      let b = over-lit (numerators Ns ys) (D ys) f in
+      let same = each-dark z b Ns l in
+      let lit : 0 < D (mix xs ys) = (let m = den .adds xs ys p q in omega arith) in
+      let lit′ : 0 < D (mix ys xs) = (let m = den .adds ys xs q p in omega arith) in
+      rw (
+        over-given (numerators Ns ys) (D ys) b,
+        over-given (numerators Ns (mix xs ys)) (D (mix xs ys)) lit,
+        over-given (numerators Ns (mix ys xs)) (D (mix ys xs)) lit′,
+        same .0,
+        same .1,
+      )
+      (refl, refl)

@@ -108,7 +108,7 @@ module _ (x y z : ℕ) where
   uv-most = rw uv-is (over-most (4 * x ∷ 9 * y ∷ []) (uvDivisor x y z) (400000 ∷ 60000 ∷ []) (omega arith, (omega arith, tt)))
 
   -- the two divisors are 0 together
-  pub together : eqb (uvDivisor x y z) 0 ≡ eqb (x + y + z) 0
+  together : eqb (uvDivisor x y z) 0 ≡ eqb (x + y + z) 0
   together = go (eqb (uvDivisor x y z) 0) (eqb (x + y + z) 0) refl refl
     where
       go : (b c : Bool) → eqb (uvDivisor x y z) 0 ≡ b → eqb (x + y + z) 0 ≡ c → b ≡ c

@@ -35,7 +35,7 @@ xyFrom x y z = cond (eqb (x + y + z) 0) (XyAnswer.Refused (refusal DARK 0)) (XyA
 abbrev pub uvDivisor : ℕ → ℕ → ℕ → ℕ
 uvDivisor x y z = x + 15 * y + 3 * z
 
--- u′ = 4 X / (X + 15 Y + 3 Z) and v′ = 9 Y / (X + 15 Y + 3 Z)
+-- u′ = 4 X / (X + 15 Y + 3 Z) and v′ = 9 Y / (X + 15 Y + 3 Z), as document 004, 3.5, has them
 abbrev pub uvOver : ℕ → ℕ → ℕ → Uv
 uvOver x y z =
     record { u = inHundredThousandths (4 * x) (uvDivisor x y z); v = inHundredThousandths (9 * y) (uvDivisor x y z) }

@@ -13,7 +13,7 @@ ghost use Prim.Native.Nat.{_^_, _<_};
 ghost use Rattle.exact.specs.Value.{short};
 ghost use Rattle.answers.specs.Worked.{uvDivisor, chartFrom, chartPoint, coordinateFloat};
 
-// Dark where x and y are refused.
+// All four coordinates from one set of sums; dark where x and y are refused.
 pub fn chart_from(sums: Sums) -> OnChart
     requires { ⌜ uvDivisor (short (sums .x)) (short (sums .y)) (short (sums .z)) < 2 ^ 96 ⌝ }
     ensures { λ r. ⌜ r ≡ chartFrom (short (sums .x)) (short (sums .y)) (short (sums .z)) ⌝ }

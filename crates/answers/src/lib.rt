@@ -45,7 +45,7 @@ pub enum UvAnswer {
     Refused(Refusal),
 }
 
-// x, y, u′ and v′.
+// x, y, u′ and v′ as floats, in this order.
 pub struct ChartPoint {
     pub x: f64,
     pub y: f64,

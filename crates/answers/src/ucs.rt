@@ -13,7 +13,7 @@ ghost use Prim.Native.Nat.{_^_, _<_};
 ghost use Rattle.exact.specs.Value.{short};
 ghost use Rattle.answers.specs.Worked.{uvDivisor, uvOver, uvFrom};
 
-// Or DARK.
+// u′ and v′ from the exact sums, or DARK.
 pub fn uv_from(sums: Sums) -> UvAnswer
     requires { ⌜ uvDivisor (short (sums .x)) (short (sums .y)) (short (sums .z)) < 2 ^ 96 ⌝ }
     ensures { λ r. ⌜ r ≡ uvFrom (short (sums .x)) (short (sums .y)) (short (sums .z)) ⌝ }
@@ -39,7 +39,7 @@ pub fn uv_divisor(sums: Sums) -> Short
     short_times_plus(sum_z, 3, short_times_plus(sum_y, 15, sum_x))
 }
 
-// 4 X and 9 Y over that, where it is not 0.
+// 4 X and 9 Y over that divisor, which is not 0.
 pub fn uv_over(sums: Sums, divisor: Short) -> Uv
     requires { ⌜ (short divisor ≡ uvDivisor (short (sums .x)) (short (sums .y)) (short (sums .z))) × (0 < short divisor) ⌝ }
     ensures { λ r. ⌜ r ≡ uvOver (short (sums .x)) (short (sums .y)) (short (sums .z)) ⌝ }

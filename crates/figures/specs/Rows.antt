@@ -1,5 +1,6 @@
 -- The bench figures P1 to P10 with the rules' own numbers, the illuminances and X, Y, Z worked again with the reference at
--- 555.017 nm, and some of the project's own. Refusals have their numbers here too, so that the table holds the names to them.
+-- 555.017 nm, u′ and v′ beside x and y, and some of the project's own. Refusals have their numbers here too, so that the table
+-- holds the names to them.
 use mathlib.Core.List.{List, [], _∷_, _++_}
 use Prim.Native.Nat.{ℕ, _-_}
 use lib.ListN.{replicate}
@@ -109,11 +110,14 @@ rows =
     ∷ gives (xyz 2 380 1 (at460 1)) (0 ∷ 0 ∷ 1 ∷ [])
     ∷ gives (xy 2 380 1 (at460 1)) (14396 ∷ 2970 ∷ [])
     ∷ gives (uv 2 380 1 (at460 1)) (18766 ∷ 8712 ∷ [])
-    -- our own: u′ of exactly 1188.5, and v′ of exactly 51237.5 for observer 10; the greatest u′ and v′ for observer 2
-    ∷ gives (uv 2 380 1 (mix (lone 401 115 793) (lone 401 135 16))) (1189 ∷ 47383 ∷ [])
-    ∷ gives (uv 10 380 1 (mix (lone 401 297 1) (lone 401 349 30))) (58417 ∷ 51238 ∷ [])
-    ∷ gives (uv 2 380 1 (lone 401 320 1000000)) (62337 ∷ 50650 ∷ [])
+    -- our own: u′ of exactly 51562.5 and v′ of exactly 39062.5; 1,000,000 at 600, where u′ of the rounded x and y would be 40104
+    ∷ gives (uv 10 380 10 (mix (lone 41 25 594523) (lone 41 24 283786))) (51563 ∷ 52266 ∷ [])
+    ∷ gives (uv 10 380 10 (mix (lone 41 26 577365) (lone 41 9 228674))) (34779 ∷ 39063 ∷ [])
+    ∷ gives (uv 2 380 10 (lone 41 22 1000000)) (40103 ∷ 53971 ∷ [])
+    -- our own: the greatest u′ and v′ for observer 2, the first by the last sample alone; and the first sample alone
+    ∷ gives (uv 2 380 10 (lone 41 40 1000000)) (62337 ∷ 50650 ∷ [])
     ∷ gives (uv 2 380 1 (lone 401 151 1000000)) (5290 ∷ 58676 ∷ [])
+    ∷ gives (uv 2 380 10 (lone 41 0 1000000)) (25708 ∷ 1677 ∷ [])
     -- our own: a lone 1 at 555 at step 5, whose line would be lost if T were divided by s
     ∷ gives (photopic 380 5 (lone 81 35 1)) (3 ∷ [])
     -- our own: 1,000,000 at 700, where z̄ is empty
@@ -175,16 +179,19 @@ rows =
     ∷ refuses (panelXyz 2 1 360 1 (lone 471 470 10001)) 8 470
     ∷ refuses (panelXy 2 1 360 1 (replicate 471 0)) 9 0
     -- our own: the refusals of u′ and v′, each before the next, of a light and of a panel
-    ∷ refuses (uv 3 381 3 (lone 400 7 1000001)) 6 0
-    ∷ refuses (uv 2 381 3 (lone 400 7 1000001)) 1 0
-    ∷ refuses (uv 2 381 1 (lone 400 7 1000001)) 2 0
-    ∷ refuses (uv 2 380 1 (lone 400 7 1000001)) 3 0
-    ∷ refuses (uv 2 380 1 (lone 401 7 1000001)) 4 7
-    ∷ refuses (panelUv 3 3 381 3 (lone 400 7 10001)) 6 0
-    ∷ refuses (panelUv 2 3 381 3 (lone 400 7 10001)) 7 0
-    ∷ refuses (panelUv 2 1 381 3 (lone 400 7 10001)) 1 0
-    ∷ refuses (panelUv 2 1 360 1 (lone 471 470 10001)) 8 470
-    ∷ refuses (panelUv 2 1 360 1 (replicate 471 0)) 9 0
+    ∷ refuses (uv 3 381 3 (lone 399 7 1000001)) 6 0
+    ∷ refuses (uv 2 381 3 (lone 399 7 1000001)) 1 0
+    ∷ refuses (uv 2 381 1 (lone 399 7 1000001)) 2 0
+    ∷ refuses (uv 2 380 1 (lone 399 7 1000001)) 3 0
+    ∷ refuses (uv 2 300 10 (lone 54 3 1000001)) 4 3
+    ∷ refuses (uv 2 300 10 (lone 54 3 1000000)) 9 0
+    ∷ refuses (panelUv 3 3 381 3 (lone 399 7 10001)) 6 0
+    ∷ refuses (panelUv 2 3 381 3 (lone 399 7 10001)) 7 0
+    ∷ refuses (panelUv 2 1 381 3 (lone 399 7 10001)) 1 0
+    ∷ refuses (panelUv 2 1 381 1 (lone 399 7 10001)) 2 0
+    ∷ refuses (panelUv 2 1 380 1 (lone 399 7 10001)) 3 0
+    ∷ refuses (panelUv 2 1 300 10 (lone 54 3 10001)) 8 3
+    ∷ refuses (panelUv 2 1 300 10 (lone 54 3 10000)) 9 0
     -- our own: a panel's figures in one answer: white, dark and refused
     ∷ gives (panelFigures 2 2 360 1 (replicate 471 10000)) (95047 ∷ 100000 ∷ 108883 ∷ 0 ∷ 31273 ∷ 32902 ∷ [])
     ∷ gives (panelFigures 2 1 360 1 (replicate 471 0)) (0 ∷ 0 ∷ 0 ∷ 9 ∷ 0 ∷ 0 ∷ [])

@@ -116,7 +116,7 @@ module _ (o : ℕ) (t : isObserver o ≡ true) where
       (each-order (length xs) (s * divisorOf y) (millilux-fits a s xs p y .divisor) xs ys refl (sym l)
       (colours a s) (colours-linear (length xs) a s) b)
 
--- of accepted lights, numerators over a divisor that are all linear
+-- an answer that is, of accepted lights, some numerators over one divisor, all of them linear
 record Over (answer : Answer) : Type 0 where
   divisor : ℕ → ℕ → List ℕ → ℕ
   parts : ℕ → ℕ → List (List ℕ → ℕ)
@@ -137,13 +137,14 @@ module _ (answer : Answer) (over : Over answer) where
   one-is-dark : OneDark answer
   one-is-dark a s xs ys m e f =
       let n = length xs in
+      let second = over .is a s ys (m .second) in
       rw (
-        over .is a s ys (m .second),
+        second,
         over .is a s (mix xs ys) (mixture-accepted a s xs ys m),
         over .is a s (mix ys xs) (mixture-accepted a s ys xs (swapped a s xs ys m)),
       )
       (said-one-dark n (over .divisor a s) (over .divisor-linear n a s) xs ys refl (sym (m .one-grid)) (over .parts a s) (over .all-over n a s)
-      (rw (over .is a s xs (m .first)) at e))
+      (rw (over .is a s xs (m .first)) at e) (rw second at f))
 
 module _ (o : ℕ) (t : isObserver o ≡ true) where
   xy-over : Over (λ a s xs. saidXy (xyOf o a s xs))

@@ -1,4 +1,4 @@
--- Laws of mixed, ordered and dark lights, of the range, and of panels.
+-- Laws of mixed, ordered and dark lights, of refusals, of the range, and of panels.
 pub mod Instances
 pub mod Constant
 pub mod Unlit

@@ -150,7 +150,7 @@ coordinates x y z =
     let given = xy-unless-dark x y z in
     record {
       xy-given = given;
-      at-most = xy-most x y z;
+      xy-at-most = xy-most x y z;
       uv-given = rw (uv-refused x y z .same-number) given;
       uv-at-most = uv-most x y z;
       chart-given = rw (chart-refused x y z .same-number) given;

@@ -130,10 +130,15 @@ pub record Darkness : Type 0 where
       (a s : ℕ) (xs : List ℕ) → lightCheck a s xs ≡ Fine → Colourless 2 a s xs → Unlit VPrime a s xs →
       saidFigures (figuresOf a s xs) ≡ given (0 ∷ 0 ∷ 0 ∷ 0 ∷ 0 ∷ DARK ∷ 0 ∷ 0 ∷ []) []
 
--- whatever is asked, u′ and v′ and the chart's point are refused exactly as x and y are
-pub record ColourRefusals : Type 0 where
-  pub uv : (o a s : ℕ) (xs : List ℕ) → RefusedAs (saidXy (xyOf o a s xs)) (saidUv (uvOf o a s xs))
-  pub chart : (o a s : ℕ) (xs : List ℕ) → RefusedAs (saidXy (xyOf o a s xs)) (saidChart (chartOf o a s xs))
+-- u′ and v′ and the chart's point are refused exactly as x and y are
+pub record RefusedAlike (xy uv chart : Said) : Type 0 where
+  pub uv-refused : RefusedAs xy uv
+  pub chart-refused : RefusedAs xy chart
+
+-- so they are whatever is asked
+abbrev pub ColourRefusals : Type 0
+ColourRefusals =
+    (o a s : ℕ) (xs : List ℕ) → RefusedAlike (saidXy (xyOf o a s xs)) (saidUv (uvOf o a s xs)) (saidChart (chartOf o a s xs))
 
 -- at k = 0 the mesopic reading is the scotopic one and at k = 1000 the photopic one, refusals and all
 pub record MesopicEnds : Type 0 where

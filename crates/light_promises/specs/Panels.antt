@@ -1,5 +1,6 @@
 -- What is promised of panels: X, Y, Z are given, and x, y and u′, v′ unless dark; none of X, Y, Z is above a white panel's, whose Y
--- is exactly 100000; a grey panel's Y is 10 times its reflectance; and the order of reflectances is kept.
+-- is exactly 100000; a grey panel's Y is 10 times its reflectance; u′, v′ and the chart are refused as x and y are; and the order
+-- of reflectances is kept.
 use mathlib.Core.Path.{_≡_}
 use mathlib.Core.Bool.{cond}
 use mathlib.Core.List.{List, [], _∷_}
@@ -8,11 +9,12 @@ use lib.ListN.{length, getD, replicate}
 use lib.Dec.{eqb}
 use Rattle.grid.specs.declared.Check.the-variants.{Fine}
 use Rattle.mixing.specs.Mixture.{Below}
-use Rattle.grid.specs.Said.{Said, value, given, RefusedAs}
+use Rattle.grid.specs.Said.{Said, value, given}
 use Rattle.answers.specs.Said.{saidXyz, saidXy, saidUv, saidChart}
 use Rattle.curves.specs.Observer.{ofObserver}
 use Rattle.panel.specs.Panel.{settingCheck, panelCheck, panelXyzOf, panelXyOf, panelUvOf, panelChartOf}
 use Rattle.panel.specs.Figures.{panelFiguresOf, saidPanelFigures}
+use Rattle.light_promises.specs.Lights.{RefusedAlike}
 use Rattle.light_promises.specs.Range.{Coordinates}
 
 -- X, Y, Z as the rules' number and values
@@ -38,13 +40,14 @@ pub record Panels : Type 0 where
       (o i a s n r : ℕ) → settingCheck o i a s n ≡ Fine → r ≤ 10000 →
       (saidPanelXyz o i a s (replicate n r) .number ≡ 0) × (value (saidPanelXyz o i a s (replicate n r)) 1 ≡ 10 * r)
   -- an accepted panel's x, y, its u′, v′ and its chart's point are given unless they are dark, and its figures in one call always
-  pub xy :
+  pub coordinates :
       (o i a s : ℕ) (rs : List ℕ) → panelCheck o i a s rs ≡ Fine →
       Coordinates (saidXy (panelXyOf o i a s rs)) (saidUv (panelUvOf o i a s rs)) (saidChart (panelChartOf o i a s rs))
   pub figures : (o i a s : ℕ) (rs : List ℕ) → panelCheck o i a s rs ≡ Fine → saidPanelFigures (panelFiguresOf o i a s rs) .number ≡ 0
   -- whatever is asked, u′ and v′ and the chart's point are refused exactly as x and y are
-  pub uv-refused : (o i a s : ℕ) (rs : List ℕ) → RefusedAs (saidXy (panelXyOf o i a s rs)) (saidUv (panelUvOf o i a s rs))
-  pub chart-refused : (o i a s : ℕ) (rs : List ℕ) → RefusedAs (saidXy (panelXyOf o i a s rs)) (saidChart (panelChartOf o i a s rs))
+  pub refused-alike :
+      (o i a s : ℕ) (rs : List ℕ) →
+      RefusedAlike (saidXy (panelXyOf o i a s rs)) (saidUv (panelUvOf o i a s rs)) (saidChart (panelChartOf o i a s rs))
   -- reflectances place by place no higher give X, Y, Z no higher
   pub order :
       (o i a s : ℕ) (rs qs : List ℕ) → panelCheck o i a s rs ≡ Fine → panelCheck o i a s qs ≡ Fine → length rs ≡ length qs →

@@ -29,10 +29,10 @@ mesopicGreatest k = mesopicMillilux k 360 1 (replicate 471 1000000)
 abbrev pub GivenUnlessDark : Said → Type 0
 GivenUnlessDark said = (IsDark said → ⊥) → said .number ≡ 0
 
--- x and y are given, each at most 100000, u′ and v′, at most 400000 and 60000, and the chart's point, unless they are dark
+-- unless they are dark, x and y are given, each at most 100000, u′ and v′, at most 400000 and 60000, and the chart's point
 pub record Coordinates (xy uv chart : Said) : Type 0 where
   pub xy-given : GivenUnlessDark xy
-  pub at-most : (i : ℕ) → value xy i ≤ 100000
+  pub xy-at-most : (i : ℕ) → value xy i ≤ 100000
   pub uv-given : GivenUnlessDark uv
   pub uv-at-most : (i : ℕ) → value uv i ≤ getD (400000 ∷ 60000 ∷ []) i 0
   pub chart-given : GivenUnlessDark chart
@@ -50,7 +50,7 @@ pub record Range : Type 0 where
   pub mesopic-0 : mesopicGreatest 0 ≡ 165033523
   pub xyz : Greatest (λ a s xs. saidXyz (xyzOf 2 a s xs)) (72989293 ∷ 72983452 ∷ 73007585 ∷ [])
   pub xyz-10 : Greatest (λ a s xs. saidXyz (xyzOf 10 a s xs)) (79741014 ∷ 79750145 ∷ 79758419 ∷ [])
-  pub xy :
+  pub coordinates :
       (o a s : ℕ) (xs : List ℕ) → isObserver o ≡ true → lightCheck a s xs ≡ Fine →
       Coordinates (saidXy (xyOf o a s xs)) (saidUv (uvOf o a s xs)) (saidChart (chartOf o a s xs))
   -- the figures in one call, dark or not

@@ -99,9 +99,9 @@ fn also_bits(x: f64) {
     bits(x);
 }
 
-// The 64 bits of a coordinate, as a number. No coordinate is above 1, and what is no number is not below it either.
+// The 64 bits of a coordinate, as a number. No coordinate is above 4, and what is no number is not below it either.
 fn bits(x: f64) {
-    if x <= 1.0 {
+    if x <= 4.0 {
         let pattern: u64 = f64::to_bits(x);
         io::print_decimal(STDOUT_FILENO, pattern);
     }

@@ -1,6 +1,6 @@
 //! Answers laid flat, as the C boundary has them: a refusal gives its number and place, else 0.
 
-use super::line::{coordinates, uv_coordinates};
+use super::line::{uv_coordinates, xy_coordinates};
 use super::refusal::Refusal;
 use crate::answers::{ChartAnswer, Reading, UvAnswer, XyAnswer, XyzAnswer};
 
@@ -85,7 +85,8 @@ pub fn chart_answer(sums: Result<[u128; 3], Refusal>) -> ChartAnswer {
     }
 }
 
+/// x, y, u' and v' from the three exact sums, or 9.
 fn four_coordinates(sums: [u128; 3]) -> Result<[u32; 4], Refusal> {
-    let ([x, y], [u, v]) = (coordinates(sums)?, uv_coordinates(sums)?);
+    let ([x, y], [u, v]) = (xy_coordinates(sums)?, uv_coordinates(sums)?);
     Ok([x, y, u, v])
 }

@@ -1,9 +1,7 @@
 //! The readings of a light.
 
 use super::flat::{chart_answer, reading, uv_answer, xy_answer, xyz_answer};
-use super::line::{
-    coordinates, coordinates_or_dark, functions, line, nearest, uv_coordinates, weigh,
-};
+use super::line::{functions, line, nearest, uv_coordinates, weigh, xy_coordinates, xy_or_dark};
 use super::refusal::{check_grid, check_samples, Refusal, MESOPIC};
 use crate::answers::{ChartAnswer, FiguresAnswer, Reading, UvAnswer, XyAnswer, XyzAnswer};
 use crate::tables::{at_reference, Table, V_PRIME, Y, Y10};
@@ -29,7 +27,7 @@ pub fn xyz(observer: u32, start: u32, step: u32, samples: &[u32]) -> XyzAnswer {
 }
 
 pub fn xy(observer: u32, start: u32, step: u32, samples: &[u32]) -> XyAnswer {
-    xy_answer(sums(observer, start, step, samples).and_then(coordinates))
+    xy_answer(sums(observer, start, step, samples).and_then(xy_coordinates))
 }
 
 pub fn uv(observer: u32, start: u32, step: u32, samples: &[u32]) -> UvAnswer {
@@ -55,7 +53,7 @@ fn seven(start: u32, step: u32, samples: &[u32]) -> Result<FiguresAnswer, Refusa
     let sums = functions.map(|weights| weigh(weights, &line));
     let [x, y, z] = sums.map(|sum| millilux(sum, functions[1], step));
     let scotopic = millilux(weigh(&V_PRIME, &line), &V_PRIME, step);
-    let (xy_number, [chart_x, chart_y]) = coordinates_or_dark(sums);
+    let (xy_number, [chart_x, chart_y]) = xy_or_dark(sums);
     Ok(FiguresAnswer {
         number: 0,
         place: 0,

@@ -49,12 +49,12 @@ pub fn nearest(numerator: u128, denominator: u128) -> u32 {
 }
 
 /// The number and the values of x and y, where dark ones are 9 and no refusal of the whole.
-pub fn coordinates_or_dark(sums: [u128; 3]) -> (u32, [u32; 2]) {
-    coordinates(sums).map_or_else(|dark| (dark.number, [0, 0]), |coordinates| (0, coordinates))
+pub fn xy_or_dark(sums: [u128; 3]) -> (u32, [u32; 2]) {
+    xy_coordinates(sums).map_or_else(|dark| (dark.number, [0, 0]), |coordinates| (0, coordinates))
 }
 
 /// x and y from the three exact sums, or 9.
-pub fn coordinates([x, y, z]: [u128; 3]) -> Result<[u32; 2], Refusal> {
+pub fn xy_coordinates([x, y, z]: [u128; 3]) -> Result<[u32; 2], Refusal> {
     over([x, y], x + y + z)
 }
 

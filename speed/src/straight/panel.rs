@@ -1,9 +1,7 @@
 //! The readings of a panel.
 
 use super::flat::{chart_answer, uv_answer, xy_answer, xyz_answer};
-use super::line::{
-    coordinates, coordinates_or_dark, functions, line, nearest, uv_coordinates, weigh,
-};
+use super::line::{functions, line, nearest, uv_coordinates, weigh, xy_coordinates, xy_or_dark};
 use super::refusal::{check_each, check_grid, Refusal, ILLUMINANT, REFLECTANCE};
 use crate::answers::{ChartAnswer, PanelFiguresAnswer, UvAnswer, XyAnswer, XyzAnswer};
 use crate::tables::{Table, A, D65};
@@ -28,7 +26,7 @@ pub fn panel_xy(
     reflectances: &[u16],
 ) -> XyAnswer {
     let sums = sums(observer, illuminant, start, step, reflectances);
-    xy_answer(sums.and_then(coordinates))
+    xy_answer(sums.and_then(xy_coordinates))
 }
 
 pub fn panel_uv(
@@ -78,7 +76,7 @@ fn five(
 ) -> Result<PanelFiguresAnswer, Refusal> {
     let sums = sums(observer, illuminant, start, step, reflectances)?;
     let [x, y, z] = thousandths(observer, illuminant, step, sums)?;
-    let (xy_number, [chart_x, chart_y]) = coordinates_or_dark(sums);
+    let (xy_number, [chart_x, chart_y]) = xy_or_dark(sums);
     Ok(PanelFiguresAnswer {
         number: 0,
         place: 0,

@@ -1,4 +1,4 @@
--- The coordinates are worked from the sums of an accepted panel.
+-- x and y are worked from the sums of an accepted panel.
 use mathlib.Core.Path.{_∙_}
 use Rattle.answers.proofs.FromSums.{from-sums}
 use Rattle.panel.specs.Panel.{panelXyOf}

@@ -1,4 +1,4 @@
--- What is at most 1 is a number.
+-- What is at most 4 is a number.
 use mathlib.Core.Path.{sym, subst}
 use mathlib.Core.Bool.{not}
 use borrow.Author.Needs.{needs}

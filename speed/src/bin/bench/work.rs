@@ -16,6 +16,7 @@ pub struct Library {
     read_record: fn(&[u8], &mut [u32]) -> RecordAnswer,
     write_record: fn(u32, u32, &[u32], &mut [u8]) -> Written,
     figures: fn(u32, u32, &[u32]) -> FiguresAnswer,
+    chart: fn(u32, u32, u32, &[u32]) -> ChartAnswer,
     report: fn(&[u8], &mut [u8]) -> Written,
     panel_figures: fn(u32, u32, u32, u32, &[u16]) -> PanelFiguresAnswer,
 }
@@ -24,6 +25,7 @@ pub static OURS: Library = Library {
     read_record: ffi::read_record,
     write_record: ffi::write_record,
     figures: ffi::figures,
+    chart: ffi::chart,
     report: ffi::report,
     panel_figures: ffi::panel_figures,
 };
@@ -32,6 +34,7 @@ pub static STRAIGHT: Library = Library {
     read_record: straight::read_record,
     write_record: straight::write_record,
     figures: straight::figures,
+    chart: straight::chart,
     report: straight::report,
     panel_figures: straight::panel_figures,
 };
@@ -79,7 +82,7 @@ pub struct Task {
     pub dot: Option<fn(&Work)>,
 }
 
-pub static TASKS: [Task; 5] = [READING, WRITING, FIGURES, REPORT, PANEL];
+pub static TASKS: [Task; 6] = [READING, WRITING, FIGURES, CHART, REPORT, PANEL];
 
 const READING: Task = Task {
     name: "reading",
@@ -126,6 +129,20 @@ pub const FIGURES: Task = Task {
             black_box(dot::figures(start, step, light));
         }
     }),
+};
+
+/// Four coordinates from one set of sums, in both.
+const CHART: Task = Task {
+    name: "chart",
+    says: "a point on the chart",
+    target: None,
+    round: |library, work| {
+        for light in &work.lights {
+            let (start, step) = black_box((work.start, work.step));
+            black_box((library.chart)(OBSERVER, start, step, light));
+        }
+    },
+    dot: None,
 };
 
 pub const REPORT: Task = Task {

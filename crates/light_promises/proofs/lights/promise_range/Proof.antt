@@ -20,7 +20,7 @@ returns c =
       mesopic-0 = mesopic-0;
       xyz = xyz-range 2 refl;
       xyz-10 = xyz-range 10 refl;
-      xy = xy-range;
+      coordinates = xy-range;
       figures = figures-range;
     }
 

@@ -1,6 +1,6 @@
--- A white panel's sums are the greatest, and sums are linear in the reflectances.
+-- A white panel's sums are the greatest, sums are linear in the reflectances, and the divisors of x, y and of u′, v′ are 0 together.
 use Rattle.light_promises.proofs.White.{is-given, at-most, white, grey, xy-given, figures-given, order}
-use Rattle.light_promises.proofs.Refused.{panel-uv, panel-chart}
+use Rattle.light_promises.proofs.Refused.{panel-refused}
 use Rattle.light_promises.proofs.panels.promise_panels.Statement.{statement}
 use Rattle.light_promises.proofs.panels.promise_panels.Tie as tie
 
@@ -11,10 +11,9 @@ returns c =
       at-most = at-most;
       white = white;
       grey = grey;
-      xy = xy-given;
+      coordinates = xy-given;
       figures = figures-given;
-      uv-refused = panel-uv;
-      chart-refused = panel-chart;
+      refused-alike = panel-refused;
       order = order;
     }
 

@@ -1,4 +1,4 @@
--- The coordinates are worked from the sums of an accepted light.
+-- x and y are worked from the sums of an accepted light.
 use mathlib.Core.Path.{_∙_}
 use Rattle.answers.proofs.FromSums.{from-sums}
 use Rattle.readings.specs.Readings.{xyOf}
