@@ -1,5 +1,4 @@
 -- Definitions of the crate `figures`.
 pub mod Asked
 pub mod Rows
-pub mod Slips
 pub mod Promises

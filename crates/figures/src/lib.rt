@@ -1,2 +1,2 @@
-// The bench figures: one table of inputs and what they must give, one claim about it, and the slips that it shows up.
+// The bench figures: one table of inputs and what they must give, and one claim about it.
 pub mod promises;

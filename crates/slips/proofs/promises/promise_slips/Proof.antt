@@ -12,11 +12,11 @@ use Rattle.answers.specs.Worked.{xyFrom, uvFrom}
 use Rattle.efficacy.specs.Efficacy.{atReference}
 use Rattle.readings.specs.Readings.{illuminanceOf, xyzOf, xyOf, uvOf}
 use Rattle.grid.specs.Said.{value}
 use Rattle.figures.specs.Asked.{Asked, answerOf}
-use Rattle.figures.specs.Slips.{filledDown}
-use Rattle.figures.specs.Promises.{Apart}
-use Rattle.figures.proofs.promises.promise_slips.Statement.{statement}
-use Rattle.figures.proofs.promises.promise_slips.Tie as tie
+use Rattle.slips.specs.Slips.{filledDown}
+use Rattle.slips.specs.Promises.{Apart}
+use Rattle.slips.proofs.promises.promise_slips.Statement.{statement}
+use Rattle.slips.proofs.promises.promise_slips.Tie as tie
 
 -- the two numbers, each computed once
 apart : {version slip ours i : ℕ} {asked : Asked} → version ≡ slip → value (answerOf asked) i ≡ ours → (slip ≡ ours → ⊥) → Apart version slip asked i ours

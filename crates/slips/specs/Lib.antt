@@ -1,0 +1,3 @@
+-- Definitions of the crate `slips`.
+pub mod Slips
+pub mod Promises

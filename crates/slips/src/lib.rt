@@ -1,0 +1,2 @@
+// The slips that this trade makes, which the bench table shows up: definitions and theorems, no code.
+pub mod promises;
