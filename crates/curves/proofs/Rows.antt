@@ -10,7 +10,8 @@ use Rattle.grid.specs.Check.{Within}
 use Rattle.mixing.specs.Sum.{total, weighted, entryOf}
 use Rattle.mixing.proofs.Sum.{total-more, weighted-one, weighted-bound, weighted-joined}
 use Rattle.tables.specs.declared.units.Units.{Units}
-use Rattle.tables.specs.Held.{unitAt, valueOf, Held}
+use Rattle.tables.specs.Units.{unitAt}
+use Rattle.tables.specs.Held.{valueOf, Held}
 use Rattle.curves.specs.Work.{lineOf, stretchSum}
 
 -- one place more, whose product is m, of a stretch that begins where `before` is the sum

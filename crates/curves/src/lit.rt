@@ -1,9 +1,9 @@
 // The three sums of a row of reflected light under an illuminant.
-use crate::summed::by_curve;
+use crate::by_curve::by_curve;
 use crate::weigh::Sums;
 use crate::weigh::curves_of;
 use tables::Illuminant;
-use tables::powers_of;
+use tables::numbers::powers_of;
 ghost use mathlib.Core.Path.{_≡_};
 ghost use lib.ListN.{length};
 ghost use Rattle.grid.specs.Check.{Within};

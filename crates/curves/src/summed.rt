@@ -1,50 +1,18 @@
-// A row summed by a curve's table, which is held in units; or two rows, of which the first stands for 2^21 times its numbers.
+// A row summed by a table that is held in units; or two rows, of which the first stands for 2^21 times its numbers.
 use exact::digits::Short;
 use exact::digits::joined;
 use exact::digits::short_times_plus;
-use tables::Curve;
 use tables::units::Units;
-use tables::units::V_PRIME_UNITS;
-use tables::units::X_BAR_10_UNITS;
-use tables::units::X_BAR_UNITS;
-use tables::units::Y_BAR_10_UNITS;
-use tables::units::Y_BAR_UNITS;
-use tables::units::Z_BAR_10_UNITS;
-use tables::units::Z_BAR_UNITS;
-use tables::v_prime;
-use tables::x_bar;
-use tables::x_bar_10;
-use tables::y_bar;
-use tables::y_bar_10;
-use tables::z_bar;
-use tables::z_bar_10;
 ghost use mathlib.Core.Path.{_≡_};
 ghost use Prim.Native.Nat.{_+_, _*_, _^_, _<_};
 ghost use Rattle.exact.specs.Value.{short};
 ghost use Rattle.grid.specs.Check.{Within};
 ghost use Rattle.mixing.specs.Sum.{weighted, entryOf};
-ghost use Rattle.tables.specs.Curves.{weightOf};
 ghost use Rattle.tables.specs.Held.{valueOf, Held};
 ghost use Rattle.curves.specs.Work.{lineOf, stretchSum, Stretched};
 
-// Of the row `low` or, where it comes in two, of high · 2^21 + low: the table is built once for both.
-pub fn by_curve(curve: Curve, in_two: bool, high: &[u64; 471], low: &[u64; 471]) -> Short
-    requires { ⌜ Within 10000000 (now high) × Within 10000000 (now low) ⌝ }
-    ensures { λ r. ⌜ short r ≡ weighted 471 (weightOf curve) (lineOf in_two (now (high .entry)) (now (low .entry))) ⌝ }
-{
-    match curve {
-        Curve::XBar => sum(&x_bar(), X_BAR_UNITS, in_two, high, low),
-        Curve::YBar => sum(&y_bar(), Y_BAR_UNITS, in_two, high, low),
-        Curve::ZBar => sum(&z_bar(), Z_BAR_UNITS, in_two, high, low),
-        Curve::XBar10 => sum(&x_bar_10(), X_BAR_10_UNITS, in_two, high, low),
-        Curve::YBar10 => sum(&y_bar_10(), Y_BAR_10_UNITS, in_two, high, low),
-        Curve::ZBar10 => sum(&z_bar_10(), Z_BAR_10_UNITS, in_two, high, low),
-        Curve::VPrime => sum(&v_prime(), V_PRIME_UNITS, in_two, high, low),
-    }
-}
-
-// The same by any table that is held in units.
-fn sum(
+// Of the row `low` or, where it comes in two, of high · 2^21 + low, by any table that is held in units.
+pub fn sum(
     weights: &[u64; 471],
     units: Units,
     in_two: bool,

@@ -1,5 +1,5 @@
 // Weighted sums over the whole nanometres 360 to 830.
-use crate::summed::by_curve;
+use crate::by_curve::by_curve;
 use exact::digits::Short;
 use tables::Curve;
 ghost use mathlib.Core.Path.{_≡_};

@@ -6,31 +6,19 @@ use lib.Dec.{lit≤}
 use Rattle.mixing.specs.Nearest.{nearest}
 use Rattle.mixing.proofs.Nearest.{nearest-cancel}
 use Rattle.tables.specs.declared.Curve.{Curve}
-use Rattle.tables.specs.declared.Curve.the-variants.{XBar, YBar, ZBar, XBar10, YBar10, ZBar10, VPrime}
-use Rattle.tables.specs.Tables.{yBar, yBar10, vPrime}
-use Rattle.tables.specs.Curves.{table}
+use Rattle.tables.specs.declared.Curve.the-variants.{YBar, VPrime}
+use Rattle.tables.specs.Tables.{table}
+use Rattle.tables.proofs.Each.{each, each-least, each-most}
 use Rattle.efficacy.specs.Efficacy.{atReference, efficacyOf, inMillilux, mesopicBracket}
 use Rattle.efficacy.specs.Divisors.{divisorOf}
 
 efficacy-is : (c : Curve) → efficacyOf c ≡ record { over = 683 * 10 ^ 16; under = divisorOf c }
-unfolding atReference table yBar yBar10 vPrime
-efficacy-is XBar = refl
-efficacy-is YBar = refl
-efficacy-is ZBar = refl
-efficacy-is XBar10 = refl
-efficacy-is YBar10 = refl
-efficacy-is ZBar10 = refl
-efficacy-is VPrime = refl
+unfolding atReference table
+efficacy-is = each efficacyOf (λ c. record { over = 683 * 10 ^ 16; under = divisorOf c }) refl
 
 -- the constants lie between 4 · 10^15 and 10^16
 pub divisor-bounds : (c : Curve) → (4000000000000000 ≤ divisorOf c) × (divisorOf c ≤ 10 ^ 16)
-divisor-bounds XBar = (lit≤ tt, lit≤ tt)
-divisor-bounds YBar = (lit≤ tt, lit≤ tt)
-divisor-bounds ZBar = (lit≤ tt, lit≤ tt)
-divisor-bounds XBar10 = (lit≤ tt, lit≤ tt)
-divisor-bounds YBar10 = (lit≤ tt, lit≤ tt)
-divisor-bounds ZBar10 = (lit≤ tt, lit≤ tt)
-divisor-bounds VPrime = (lit≤ tt, lit≤ tt)
+divisor-bounds c = (each-least divisorOf 4000000000000000 refl c, each-most divisorOf (10 ^ 16) refl c)
 
 pub millilux-worked : (c : Curve) (s w : ℕ) → inMillilux c s w ≡ nearest (683 * w) (s * divisorOf c)
 millilux-worked c s w =
@@ -43,5 +31,5 @@ millilux-worked c s w =
     under s d = omega arith
 
 pub bracket-is : (k : ℕ) → mesopicBracket k ≡ 1000 * (k * divisorOf YBar + (1000 - k) * divisorOf VPrime)
-unfolding atReference table yBar vPrime
+unfolding atReference table
 bracket-is k = refl

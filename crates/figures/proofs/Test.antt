@@ -10,8 +10,7 @@ use Rattle.grid.specs.Check.{gridCheck, limitCheck, lightCheck}
 use Rattle.mixing.specs.Nearest.{nearest}
 use Rattle.mixing.specs.Sum.{total, weighted}
 use Rattle.mixing.specs.Mixture.{mix}
-use Rattle.tables.specs.Tables.{xBar, yBar, zBar, xBar10, yBar10, zBar10, vPrime, illuminantA, illuminantD65}
-use Rattle.tables.specs.Curves.{table, powers}
+use Rattle.tables.specs.Tables.{table, powers}
 use Rattle.spectrum.specs.Line.{lineAt, endRule, W, T as T′}
 use Rattle.answers.specs.Worked.{xyFrom, uvFrom}
 use Rattle.panel.specs.Figures.{panelFiguresOf}
@@ -92,5 +91,5 @@ holds (r ∷ rs) t = (
 
 -- the test, computed over the whole table
 pub passes : T (test rows)
-unfolding test isSame sameNumbers noFloats rows answerOf panelXyzOf panelXyOf panelUvOf panelFiguresOf panelCheck settingCheck whiteSum illuminanceOf mesopicOf xyzOf xyOf uvOf xyFrom uvFrom lightCheck gridCheck limitCheck W weighted total T′ lineAt endRule atReference table powers xBar yBar zBar xBar10 yBar10 zBar10 vPrime illuminantA illuminantD65 nearest mix
+unfolding test isSame sameNumbers noFloats rows answerOf panelXyzOf panelXyOf panelUvOf panelFiguresOf panelCheck settingCheck whiteSum illuminanceOf mesopicOf xyzOf xyOf uvOf xyFrom uvFrom lightCheck gridCheck limitCheck W weighted total T′ lineAt endRule atReference table powers nearest mix
 passes = tt

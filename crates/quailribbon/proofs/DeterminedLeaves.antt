@@ -1,5 +1,5 @@
 -- The open functions between crates are determined too: two results that a contract allows for the same arguments are
--- equal. `Determined` shows it of the functions that face callers.
+-- equal. `Determined` shows it of the functions that face callers, `DeterminedTables` of those that give a curve's table.
 use mathlib.Core.Path.{_≡_, refl}
 use Prim.Native.Nat.{_^_, _<_}
 use native.Mathlib.Omega.{arith}
@@ -20,14 +20,7 @@ use Rattle.grid.proofs.is_observer.Reads as is-observer
 use Rattle.grid.proofs.check_light.Reads as check-light
 use Rattle.grid.proofs.check_samples.Reads as check-samples
 use Rattle.grid.proofs.check_limit.Reads as check-limit
-use Rattle.tables.proofs.powers_of.Reads as powers-of
-use Rattle.tables.proofs.x_bar.Reads as x-bar
-use Rattle.tables.proofs.y_bar.Reads as y-bar
-use Rattle.tables.proofs.z_bar.Reads as z-bar
-use Rattle.tables.proofs.x_bar_10.Reads as x-bar-10
-use Rattle.tables.proofs.y_bar_10.Reads as y-bar-10
-use Rattle.tables.proofs.z_bar_10.Reads as z-bar-10
-use Rattle.tables.proofs.v_prime.Reads as v-prime
+use Rattle.tables.proofs.numbers.powers_of.Reads as powers-of
 use Rattle.curves.proofs.weigh.curves_of.Reads as curves-of
 use Rattle.curves.proofs.weigh.weigh.Reads as weigh
 use Rattle.curves.proofs.weigh.row_sums.Reads as row-sums
@@ -125,27 +118,6 @@ one-check-limit k a r q e f p s = same p s
 
 one-powers-of : OneResult powers-of.Post
 one-powers-of k a r q e f p s = same p s
-
-one-x-bar : OneResult x-bar.Post
-one-x-bar k a r q e f p s = same p s
-
-one-y-bar : OneResult y-bar.Post
-one-y-bar k a r q e f p s = same p s
-
-one-z-bar : OneResult z-bar.Post
-one-z-bar k a r q e f p s = same p s
-
-one-x-bar-10 : OneResult x-bar-10.Post
-one-x-bar-10 k a r q e f p s = same p s
-
-one-y-bar-10 : OneResult y-bar-10.Post
-one-y-bar-10 k a r q e f p s = same p s
-
-one-z-bar-10 : OneResult z-bar-10.Post
-one-z-bar-10 k a r q e f p s = same p s
-
-one-v-prime : OneResult v-prime.Post
-one-v-prime k a r q e f p s = same p s
 
 -- curves
 

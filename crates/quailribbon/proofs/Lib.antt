@@ -1,3 +1,4 @@
 -- That every contract determines its function.
 pub mod Determined
 pub mod DeterminedLeaves
+pub mod DeterminedTables

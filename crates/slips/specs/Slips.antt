@@ -5,7 +5,7 @@ use lib.ListN.{length, getD}
 use Rattle.mixing.specs.Nearest.{nearest}
 use Rattle.mixing.specs.Sum.{total, weighted, entryOf}
 use Rattle.tables.specs.declared.Curve.the-variants.{YBar, ZBar}
-use Rattle.tables.specs.Tables.{zBar}
+use Rattle.tables.specs.Tables.{table}
 use Rattle.tables.specs.Curves.{weightOf}
 use Rattle.spectrum.specs.Line.{T}
 use Rattle.efficacy.specs.Efficacy.{inMillilux}
@@ -39,4 +39,4 @@ filledDown above (suc x ∷ xs) = suc x ∷ filledDown (suc x) xs
 
 -- Z by such a column
 abbrev pub zFilled : ℕ → ℕ → List ℕ → ℕ
-zFilled a s xs = inMillilux ZBar s (weighted 471 (entryOf (filledDown 0 zBar)) (λ k. T a s xs (360 + k)))
+zFilled a s xs = inMillilux ZBar s (weighted 471 (entryOf (filledDown 0 (table ZBar))) (λ k. T a s xs (360 + k)))

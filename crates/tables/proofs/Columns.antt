@@ -3,29 +3,29 @@ use mathlib.Core.Path.{_≡_, refl, _∙_}
 use Prim.Native.Nat.{ℕ, _≤_}
 use native.Mathlib.Nat.{le-trans}
 use lib.Dec.{lit≤}
+use lib.ListN.{length}
 use Rattle.mixing.specs.Sum.{total, sumOf}
 use Rattle.mixing.proofs.Sum.{total-list}
-use Rattle.tables.specs.Tables.{xBar, yBar, zBar, xBar10, yBar10, zBar10, vPrime, illuminantA, illuminantD65}
-use Rattle.tables.specs.Curves.{table, powers, weightOf, powerOf}
-use Rattle.tables.specs.Columns.{largest, Column, tableSum, tableTop, powersSum, powersTop}
+use Rattle.tables.specs.Tables.{table, powers}
+use Rattle.tables.specs.Curves.{weightOf, powerOf}
+use Rattle.tables.specs.Column.{largest, Column}
+use Rattle.tables.specs.Columns.{tableSum, tableTop, powersSum, powersTop}
 use Rattle.tables.specs.declared.Curve.{Curve}
-use Rattle.tables.specs.declared.Curve.the-variants.{XBar, YBar, ZBar, XBar10, YBar10, ZBar10, VPrime}
 use Rattle.tables.specs.declared.Illuminant.{Illuminant}
 use Rattle.tables.specs.declared.Illuminant.the-variants.{A, D65}
+use Rattle.tables.proofs.Each.{each}
 use Rattle.tables.proofs.Largest.{at-most-largest}
 
 pub column : (c : Curve) → Column (table c) (tableSum c) (tableTop c)
-unfolding table sumOf largest xBar yBar zBar xBar10 yBar10 zBar10 vPrime
-column XBar = record { entries = refl; adds-up = refl; largest-is = refl }
-column YBar = record { entries = refl; adds-up = refl; largest-is = refl }
-column ZBar = record { entries = refl; adds-up = refl; largest-is = refl }
-column XBar10 = record { entries = refl; adds-up = refl; largest-is = refl }
-column YBar10 = record { entries = refl; adds-up = refl; largest-is = refl }
-column ZBar10 = record { entries = refl; adds-up = refl; largest-is = refl }
-column VPrime = record { entries = refl; adds-up = refl; largest-is = refl }
+unfolding table sumOf largest
+column c = record {
+  entries = each (λ c. length (table c)) (λ c. 471) refl c;
+  adds-up = each (λ c. sumOf (table c)) tableSum refl c;
+  largest-is = each (λ c. largest (table c)) tableTop refl c;
+}
 
 pub powers-column : (i : Illuminant) → Column (powers i) (powersSum i) (powersTop i)
-unfolding powers sumOf largest illuminantA illuminantD65
+unfolding powers sumOf largest
 powers-column A = record { entries = refl; adds-up = refl; largest-is = refl }
 powers-column D65 = record { entries = refl; adds-up = refl; largest-is = refl }
 

@@ -4,17 +4,21 @@ use mathlib.Core.List.{List, [], _∷_}
 use Prim.Native.Nat.{ℕ, zero, suc, _+_, _*_, _≤_}
 use native.Mathlib.Nat.{zero-add, mul-zero, le-trans}
 use native.Mathlib.Omega.{arith}
-use lib.Dec.{lit≤}
+use mathlib.Core.Bool.{true}
+use borrow.Author.Tests.{leb-true}
+use lib.Dec.{leb}
 use lib.ListN.{length, getD}
 use Rattle.mixing.specs.Sum.{sumOf}
 use Rattle.mixing.proofs.Sum.{total-ext, total-list}
-use Rattle.tables.specs.Tables.{xBar, yBar, zBar, xBar10, yBar10, zBar10, vPrime}
-use Rattle.tables.specs.Curves.{table, weightOf}
-use Rattle.tables.specs.Columns.{largest}
-use Rattle.tables.specs.Held.{units, unitAt, countedFrom, inUnits, valueOf, EndsInOrder, Counts, Held}
+use Rattle.tables.specs.Tables.{table}
+use Rattle.tables.specs.Curves.{weightOf}
+use Rattle.tables.specs.Column.{largest}
+use Rattle.tables.specs.Columns.{units}
+use Rattle.tables.specs.Units.{unitAt}
+use Rattle.tables.specs.Held.{countedFrom, inUnits, valueOf, EndsInOrder, Counts, Held}
 use Rattle.tables.specs.declared.Curve.{Curve}
-use Rattle.tables.specs.declared.Curve.the-variants.{XBar, YBar, ZBar, XBar10, YBar10, ZBar10, VPrime}
 use Rattle.tables.specs.declared.units.Units.{Units}
+use Rattle.tables.proofs.Each.{each, each-most}
 use Rattle.tables.proofs.Largest.{at-most-largest}
 use Rattle.tables.proofs.Columns.{column}
 use Rattle.tables.proofs.Sums.{curve-sum}
@@ -35,41 +39,44 @@ unfolding countedFrom
 counted-length k u [] = refl
 counted-length k u (x ∷ xs) = ap suc (counted-length (suc k) u xs)
 
--- what is computed over a table as the code holds it
-record HeldTable (u : Units) (xs full : List ℕ) : Type 0 where
-  no-digit-lost : valuesFrom 0 u xs ≡ full
-  each : largest xs ≤ 4294967295
-  all : sumOf xs ≤ 1000000000000
-  in-order : EndsInOrder u
+-- what is computed over each table as the code holds it
+no-digit-lost : (c : Curve) → valuesFrom 0 (units c) (inUnits c) ≡ table c
+unfolding valuesFrom inUnits countedFrom unitAt table
+no-digit-lost = each (λ c. valuesFrom 0 (units c) (inUnits c)) table refl
 
-held-table : (c : Curve) → HeldTable (units c) (inUnits c) (table c)
-unfolding valuesFrom sumOf largest inUnits countedFrom unitAt table xBar yBar zBar xBar10 yBar10 zBar10 vPrime
-held-table XBar = record { no-digit-lost = refl; each = lit≤ tt; all = lit≤ tt; in-order = record { first = lit≤ tt; second = lit≤ tt; third = lit≤ tt } }
-held-table YBar = record { no-digit-lost = refl; each = lit≤ tt; all = lit≤ tt; in-order = record { first = lit≤ tt; second = lit≤ tt; third = lit≤ tt } }
-held-table ZBar = record { no-digit-lost = refl; each = lit≤ tt; all = lit≤ tt; in-order = record { first = lit≤ tt; second = lit≤ tt; third = lit≤ tt } }
-held-table XBar10 = record { no-digit-lost = refl; each = lit≤ tt; all = lit≤ tt; in-order = record { first = lit≤ tt; second = lit≤ tt; third = lit≤ tt } }
-held-table YBar10 = record { no-digit-lost = refl; each = lit≤ tt; all = lit≤ tt; in-order = record { first = lit≤ tt; second = lit≤ tt; third = lit≤ tt } }
-held-table ZBar10 = record { no-digit-lost = refl; each = lit≤ tt; all = lit≤ tt; in-order = record { first = lit≤ tt; second = lit≤ tt; third = lit≤ tt } }
-held-table VPrime = record { no-digit-lost = refl; each = lit≤ tt; all = lit≤ tt; in-order = record { first = lit≤ tt; second = lit≤ tt; third = lit≤ tt } }
+largest-held : (c : Curve) → largest (inUnits c) ≤ 4294967295
+unfolding largest inUnits countedFrom unitAt table
+largest-held = each-most (λ c. largest (inUnits c)) 4294967295 refl
+
+sum-held : (c : Curve) → sumOf (inUnits c) ≤ 1000000000000
+unfolding sumOf inUnits countedFrom unitAt table
+sum-held = each-most (λ c. sumOf (inUnits c)) 1000000000000 refl
+
+ends-in-order : (c : Curve) → EndsInOrder (units c)
+ends-in-order c = record {
+  first = leb-true _ _ (each (λ c. leb (units c .first .end) (units c .second .end)) (λ c. true) refl c);
+  second = leb-true _ _ (each (λ c. leb (units c .second .end) (units c .third .end)) (λ c. true) refl c);
+  third = each-most (λ c. units c .third .end) 471 refl c;
+}
 
 pub weighs : (c : Curve) (k : ℕ) → valueOf (units c) (inUnits c) k ≡ weightOf c k
 weighs c k =
     sym (rw (zero-add k) at (value-at 0 k (units c) (inUnits c)))
-    ∙ ap (λ (xs : List ℕ). getD xs k 0) (held-table c .no-digit-lost)
+    ∙ ap (λ (xs : List ℕ). getD xs k 0) (no-digit-lost c)
 
 counts : (c : Curve) → Counts (inUnits c)
 unfolding inUnits
 counts c =
     let long = counted-length 0 (units c) (table c) ∙ column c .entries in
     record {
-      each = λ k. le-trans (at-most-largest (inUnits c) k) (held-table c .each);
-      all = rw (rw long at (total-list (inUnits c))) (held-table c .all);
+      each = λ k. le-trans (at-most-largest (inUnits c) k) (largest-held c);
+      all = rw (rw long at (total-list (inUnits c))) (sum-held c);
     }
 
 pub held : (c : Curve) → Held (units c) (inUnits c)
 held c =
     record {
-      in-order = held-table c .in-order;
+      in-order = ends-in-order c;
       counts = counts c;
       full = rw (total-ext 471 (valueOf (units c) (inUnits c)) (weightOf c) (λ k h. weighs c k)) (curve-sum c);
     }

@@ -3,7 +3,7 @@ use mathlib.Core.List.{List, [], _∷_}
 use Prim.Native.Nat.{ℕ, zero, suc, _≤_, zero-le}
 use native.Mathlib.Omega.{arith}
 use lib.ListN.{getD}
-use Rattle.tables.specs.Columns.{largest}
+use Rattle.tables.specs.Column.{largest}
 
 pub at-most-largest : (xs : List ℕ) (k : ℕ) → getD xs k 0 ≤ largest xs
 unfolding largest

@@ -1,4 +1,5 @@
 -- Laws of the tables.
+pub mod Each
 pub mod Largest
 pub mod Columns
 pub mod Lit

@@ -6,13 +6,13 @@ use native.Mathlib.Omega.{arith}
 use lib.ListN.{length, getD}
 use Rattle.mixing.specs.Sum.{total}
 use Rattle.mixing.proofs.Sum.{total-first}
-use Rattle.tables.specs.Tables.{xBar, yBar, zBar, xBar10, yBar10, zBar10, vPrime, illuminantA, illuminantD65}
-use Rattle.tables.specs.Curves.{table, powers, litBy}
+use Rattle.tables.specs.Tables.{table, powers}
+use Rattle.tables.specs.Curves.{litBy}
 use Rattle.tables.specs.Columns.{litSum}
 use Rattle.tables.specs.declared.Curve.{Curve}
-use Rattle.tables.specs.declared.Curve.the-variants.{XBar, YBar, ZBar, XBar10, YBar10, ZBar10, VPrime}
 use Rattle.tables.specs.declared.Illuminant.{Illuminant}
 use Rattle.tables.specs.declared.Illuminant.the-variants.{A, D65}
+use Rattle.tables.proofs.Each.{each}
 use Rattle.tables.proofs.Columns.{column, powers-column}
 
 -- the sum of the products of two lists, place by place
@@ -39,18 +39,6 @@ in-one-walk i c =
     rw long at (total-products (powers i) (table c) (long ∙ sym (column c .entries)))
 
 pub lit-sum : (i : Illuminant) (c : Curve) → sumUnder i c ≡ litSum i c
-unfolding productsOf table powers xBar yBar zBar xBar10 yBar10 zBar10 vPrime illuminantA illuminantD65
-lit-sum A XBar = in-one-walk A XBar
-lit-sum A YBar = in-one-walk A YBar
-lit-sum A ZBar = in-one-walk A ZBar
-lit-sum A XBar10 = in-one-walk A XBar10
-lit-sum A YBar10 = in-one-walk A YBar10
-lit-sum A ZBar10 = in-one-walk A ZBar10
-lit-sum A VPrime = in-one-walk A VPrime
-lit-sum D65 XBar = in-one-walk D65 XBar
-lit-sum D65 YBar = in-one-walk D65 YBar
-lit-sum D65 ZBar = in-one-walk D65 ZBar
-lit-sum D65 XBar10 = in-one-walk D65 XBar10
-lit-sum D65 YBar10 = in-one-walk D65 YBar10
-lit-sum D65 ZBar10 = in-one-walk D65 ZBar10
-lit-sum D65 VPrime = in-one-walk D65 VPrime
+unfolding productsOf table powers
+lit-sum A c = in-one-walk A c ∙ each (λ c. productsOf (powers A) (table c)) (litSum A) refl c
+lit-sum D65 c = in-one-walk D65 c ∙ each (λ c. productsOf (powers D65) (table c)) (litSum D65) refl c

@@ -2,7 +2,7 @@
 use mathlib.Core.Path.{_≡_}
 use Prim.Native.Nat.{ℕ, _≤_, _<_}
 use borrow.Author.Tests.{lt-ltb, le-ltb}
-use Rattle.tables.specs.Held.{unitAt}
+use Rattle.tables.specs.Units.{unitAt}
 use Rattle.tables.specs.declared.units.Units.{Units}
 
 module _ (u : Units) (k : ℕ) where

@@ -1,26 +1,18 @@
--- What is computed over a whole table: its length, its sum and its largest entry; and the sum of illuminant times curve.
-use mathlib.Core.Path.{_≡_}
+-- What is computed over each table: written by tools/tables from the source documents, and proved.
 use mathlib.Core.List.{List, [], _∷_}
-use Prim.Native.Nat.{ℕ, max}
-use lib.ListN.{length}
-use Rattle.mixing.specs.Sum.{sumOf}
+use Prim.Native.Nat.{ℕ}
+use Rattle.tables.specs.Units.{stretch, stretches}
 use Rattle.tables.specs.declared.Curve.{Curve}
 use Rattle.tables.specs.declared.Curve.the-variants.{XBar, YBar, ZBar, XBar10, YBar10, ZBar10, VPrime}
 use Rattle.tables.specs.declared.Illuminant.{Illuminant}
 use Rattle.tables.specs.declared.Illuminant.the-variants.{A, D65}
+use Rattle.tables.specs.declared.units.Units.{Units}
 
--- the largest entry of a list, 0 where it has none
-unfoldable pub largest : List ℕ → ℕ
-largest [] = 0
-largest (x ∷ xs) = max x (largest xs)
+-- every curve
+abbrev pub curves : List Curve
+curves = XBar ∷ YBar ∷ ZBar ∷ XBar10 ∷ YBar10 ∷ ZBar10 ∷ VPrime ∷ []
 
--- 471 entries that add up to `sum`, and of which `top` is the largest
-pub record Column (xs : List ℕ) (sum top : ℕ) : Type 0 where
-  pub entries : length xs ≡ 471
-  pub adds-up : sumOf xs ≡ sum
-  pub largest-is : largest xs ≡ top
-
--- what the entries of each table add up to, and the largest
+-- what the entries of a curve add up to
 abbrev pub tableSum : Curve → ℕ
 tableSum XBar = 1068654694895950
 tableSum YBar = 1068569171011719
@@ -30,6 +22,7 @@ tableSum YBar10 = 1166618771023120
 tableSum ZBar10 = 1166739805146470
 tableSum VPrime = 970713165740000
 
+-- and the largest of them
 abbrev pub tableTop : Curve → ℕ
 tableTop XBar = 10629096000000
 tableTop YBar = 10000000000000
@@ -39,11 +32,12 @@ tableTop YBar10 = 10000000000000
 tableTop ZBar10 = 20273000000000
 tableTop VPrime = 10000000000000
 
--- the same of the illuminants
+-- the same of an illuminant
 abbrev pub powersSum : Illuminant → ℕ
 powersSum A = 6007637200
 powersSum D65 = 3918769960
 
+-- and its largest
 abbrev pub powersTop : Illuminant → ℕ
 powersTop A = 26160200
 powersTop D65 = 11781200
@@ -64,3 +58,13 @@ litSum D65 XBar10 = 11017375735781362489200
 litSum D65 YBar10 = 11620348647650694114000
 litSum D65 ZBar10 = 12469176716130656982100
 litSum D65 VPrime = 10462969390358220200000
+
+-- the units in which the code counts a curve's entries: x̄ below place 190, which is 550 nm, in thousands
+abbrev pub units : Curve → Units
+units XBar = stretches (stretch 190 1000) (stretch 375 10000) (stretch 471 10) 1
+units YBar = stretches (stretch 61 10) (stretch 361 10000) (stretch 459 10) 1
+units ZBar = stretches (stretch 57 1000) (stretch 246 10000) (stretch 471 10) 1
+units XBar10 = stretches (stretch 33 10) (stretch 410 10000) (stretch 471 1) 1
+units YBar10 = stretches (stretch 45 10) (stretch 405 10000) (stretch 471 1) 1
+units ZBar10 = stretches (stretch 27 10) (stretch 471 10000) (stretch 471 1) 1
+units VPrime = stretches (stretch 404 10000) (stretch 471 1) (stretch 471 1) 1

@@ -1,27 +1,9 @@
 -- What a curve weighs, and an illuminant gives, at each place.
-use mathlib.Core.List.{List}
 use Prim.Native.Nat.{ℕ, _*_}
 use Rattle.mixing.specs.Sum.{entryOf}
-use Rattle.tables.specs.Tables.{xBar, yBar, zBar, xBar10, yBar10, zBar10, vPrime, illuminantA, illuminantD65}
+use Rattle.tables.specs.Tables.{table, powers}
 use Rattle.tables.specs.declared.Curve.{Curve}
-use Rattle.tables.specs.declared.Curve.the-variants.{XBar, YBar, ZBar, XBar10, YBar10, ZBar10, VPrime}
 use Rattle.tables.specs.declared.Illuminant.{Illuminant}
-use Rattle.tables.specs.declared.Illuminant.the-variants.{A, D65}
-
--- the whole table of a curve, from 360 nm on
-unfoldable pub table : Curve → List ℕ
-table XBar = xBar
-table YBar = yBar
-table ZBar = zBar
-table XBar10 = xBar10
-table YBar10 = yBar10
-table ZBar10 = zBar10
-table VPrime = vPrime
-
--- and of an illuminant
-unfoldable pub powers : Illuminant → List ℕ
-powers A = illuminantA
-powers D65 = illuminantD65
 
 -- the entry of a curve at 360 nm and k places on
 abbrev pub weightOf : Curve → ℕ → ℕ

@@ -1,38 +1,12 @@
 -- How the code holds a curve's table, in units of powers of ten: no promise to a caller rests on the reading of this.
-use mathlib.Core.Bool.{cond}
 use mathlib.Core.List.{List, [], _∷_}
 use Prim.Native.Nat.{ℕ, suc, _*_, _/_, _≤_}
-use lib.Dec.{ltb}
 use Rattle.mixing.specs.Sum.{total, entryOf}
-use Rattle.tables.specs.Curves.{table}
+use Rattle.tables.specs.Tables.{table}
+use Rattle.tables.specs.Columns.{units}
+use Rattle.tables.specs.Units.{unitAt}
 use Rattle.tables.specs.declared.Curve.{Curve}
-use Rattle.tables.specs.declared.Curve.the-variants.{XBar, YBar, ZBar, XBar10, YBar10, ZBar10, VPrime}
-use Rattle.tables.specs.declared.units.Stretch.{Stretch}
 use Rattle.tables.specs.declared.units.Units.{Units}
-
--- the places below `end`, from where the stretch before ends, counted in `unit`
-abbrev stretch : ℕ → ℕ → Stretch
-stretch end unit = record { end = end; unit = unit }
-
--- three stretches, and the unit of the rest
-abbrev stretches : Stretch → Stretch → Stretch → ℕ → Units
-stretches first second third rest = record { first = first; second = second; third = third; rest = rest }
-
--- the units of each curve, as tools/tables finds them: x̄ below place 190, which is 550 nm, in thousands
-abbrev pub units : Curve → Units
-units XBar = stretches (stretch 190 1000) (stretch 375 10000) (stretch 471 10) 1
-units YBar = stretches (stretch 61 10) (stretch 361 10000) (stretch 459 10) 1
-units ZBar = stretches (stretch 57 1000) (stretch 246 10000) (stretch 471 10) 1
-units XBar10 = stretches (stretch 33 10) (stretch 410 10000) (stretch 471 1) 1
-units YBar10 = stretches (stretch 45 10) (stretch 405 10000) (stretch 471 1) 1
-units ZBar10 = stretches (stretch 27 10) (stretch 471 10000) (stretch 471 1) 1
-units VPrime = stretches (stretch 404 10000) (stretch 471 1) (stretch 471 1) 1
-
--- the unit at a place
-unfoldable pub unitAt : Units → ℕ → ℕ
-unitAt u k =
-    cond (ltb k (u .first .end)) (u .first .unit)
-    (cond (ltb k (u .second .end)) (u .second .unit) (cond (ltb k (u .third .end)) (u .third .unit) (u .rest)))
 
 -- a list from place k on, each entry counted in the unit of its place
 unfoldable pub countedFrom : ℕ → Units → List ℕ → List ℕ

@@ -1,9 +1,17 @@
-// The nine tables as the code reads them, 471 entries each from 360 to 830 nm: written by tools/tables from the source documents.
+// The tables as the code reads them, from 360 to 830 nm: written by tools/tables from the source documents. A table is
+// built anew where it is asked for; each has a function of its own, since one match over the numbers would look up every
+// entry by the curve.
+use crate::Illuminant;
 use crate::units::Stretch;
 use crate::units::Units;
+ghost use mathlib.Core.Path.{_≡_};
+ghost use Rattle.tables.specs.Tables.{powers};
+ghost use Rattle.tables.specs.Held.{inUnits};
+ghost use Rattle.tables.specs.declared.Curve.{Curve};
+ghost use Rattle.tables.specs.declared.Illuminant.{Illuminant};
 
 // x̄ of the 1931 observer, at 10^13 to one, counted in the unit of each stretch.
-pub const X_BAR: [u64; 471] = [
+const X_BAR: [u64; 471] = [
     1299000,
     1458470,
     1638021,
@@ -490,8 +498,14 @@ pub const X_BAR_UNITS: Units = Units {
     rest: 1,
 };
 
+pub fn x_bar() -> [u64; 471]
+    ensures { λ r. ⌜ r ≡ inUnits Curve.XBar ⌝ }
+{
+    X_BAR
+}
+
 // ȳ of the 1931 observer, which is V, at 10^13 to one, counted in the unit of each stretch.
-pub const Y_BAR: [u64; 471] = [
+const Y_BAR: [u64; 471] = [
     3917000,
     4393581,
     4929604,
@@ -975,8 +989,14 @@ pub const Y_BAR_UNITS: Units = Units {
     rest: 1,
 };
 
+pub fn y_bar() -> [u64; 471]
+    ensures { λ r. ⌜ r ≡ inUnits Curve.YBar ⌝ }
+{
+    Y_BAR
+}
+
 // z̄ of the 1931 observer, at 10^13 to one, counted in the unit of each stretch.
-pub const Z_BAR: [u64; 471] = [
+const Z_BAR: [u64; 471] = [
     6061000,
     6808792,
     7651456,
@@ -1463,8 +1483,14 @@ pub const Z_BAR_UNITS: Units = Units {
     rest: 1,
 };
 
+pub fn z_bar() -> [u64; 471]
+    ensures { λ r. ⌜ r ≡ inUnits Curve.ZBar ⌝ }
+{
+    Z_BAR
+}
+
 // x̄10 of the 1964 observer, at 10^13 to one, counted in the unit of each stretch.
-pub const X_BAR_10: [u64; 471] = [
+const X_BAR_10: [u64; 471] = [
     122200,
     185138,
     278830,
@@ -1948,8 +1974,14 @@ pub const X_BAR_10_UNITS: Units = Units {
     rest: 1,
 };
 
+pub fn x_bar_10() -> [u64; 471]
+    ensures { λ r. ⌜ r ≡ inUnits Curve.XBar10 ⌝ }
+{
+    X_BAR_10
+}
+
 // ȳ10 of the 1964 observer, which is V10, at 10^13 to one, counted in the unit of each stretch.
-pub const Y_BAR_10: [u64; 471] = [
+const Y_BAR_10: [u64; 471] = [
     13398,
     20294,
     30560,
@@ -2433,8 +2465,14 @@ pub const Y_BAR_10_UNITS: Units = Units {
     rest: 1,
 };
 
+pub fn y_bar_10() -> [u64; 471]
+    ensures { λ r. ⌜ r ≡ inUnits Curve.YBar10 ⌝ }
+{
+    Y_BAR_10
+}
+
 // z̄10 of the 1964 observer, at 10^13 to one, counted in the unit of each stretch.
-pub const Z_BAR_10: [u64; 471] = [
+const Z_BAR_10: [u64; 471] = [
     535027,
     810720,
     1221200,
@@ -2918,8 +2956,14 @@ pub const Z_BAR_10_UNITS: Units = Units {
     rest: 1,
 };
 
+pub fn z_bar_10() -> [u64; 471]
+    ensures { λ r. ⌜ r ≡ inUnits Curve.ZBar10 ⌝ }
+{
+    Z_BAR_10
+}
+
 // V′, which is 0 below 380 and above 780 nm, at 10^13 to one, counted in the unit of each stretch.
-pub const V_PRIME: [u64; 471] = [
+const V_PRIME: [u64; 471] = [
     0,
     0,
     0,
@@ -3403,8 +3447,24 @@ pub const V_PRIME_UNITS: Units = Units {
     rest: 1,
 };
 
+pub fn v_prime() -> [u64; 471]
+    ensures { λ r. ⌜ r ≡ inUnits Curve.VPrime ⌝ }
+{
+    V_PRIME
+}
+
+// The whole table of an illuminant.
+pub fn powers_of(illuminant: Illuminant) -> [u32; 471]
+    ensures { λ r. ⌜ r ≡ powers illuminant ⌝ }
+{
+    match illuminant {
+        Illuminant::A => illuminant_a(),
+        Illuminant::D65 => illuminant_d65(),
+    }
+}
+
 // Illuminant A, from 800 nm on by its equation, at 10^5 to one.
-pub const ILLUMINANT_A: [u32; 471] = [
+const ILLUMINANT_A: [u32; 471] = [
     614462,
     629955,
     645724,
@@ -3878,8 +3938,14 @@ pub const ILLUMINANT_A: [u32; 471] = [
     26160200,
 ];
 
+fn illuminant_a() -> [u32; 471]
+    ensures { λ r. ⌜ r ≡ powers Illuminant.A ⌝ }
+{
+    ILLUMINANT_A
+}
+
 // Illuminant D65, from 761 nm on by the line between the tens, at 10^5 to one.
-pub const ILLUMINANT_D65: [u32; 471] = [
+const ILLUMINANT_D65: [u32; 471] = [
     4663830,
     4718340,
     4772850,
@@ -4352,3 +4418,9 @@ pub const ILLUMINANT_D65: [u32; 471] = [
     6002530,
     6031250,
 ];
+
+fn illuminant_d65() -> [u32; 471]
+    ensures { λ r. ⌜ r ≡ powers Illuminant.D65 ⌝ }
+{
+    ILLUMINANT_D65
+}

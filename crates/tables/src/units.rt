@@ -1,12 +1,5 @@
 // The units in which the code holds a curve's table. Its places are cut into four stretches, and in each of them every entry is
 // a whole number of one power of ten that fits 32 bits. A table that needs fewer stretches has empty ones at its end.
-pub use crate::numbers::V_PRIME_UNITS;
-pub use crate::numbers::X_BAR_10_UNITS;
-pub use crate::numbers::X_BAR_UNITS;
-pub use crate::numbers::Y_BAR_10_UNITS;
-pub use crate::numbers::Y_BAR_UNITS;
-pub use crate::numbers::Z_BAR_10_UNITS;
-pub use crate::numbers::Z_BAR_UNITS;
 
 // The places below its end, from where the stretch before it ends, and the unit of their entries.
 pub struct Stretch {

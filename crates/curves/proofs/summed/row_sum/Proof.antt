@@ -9,7 +9,8 @@ use Rattle.exact.specs.Value.{short}
 use Rattle.exact.specs.declared.digits.Short.{Short}
 use Rattle.grid.specs.Check.{Within}
 use Rattle.mixing.specs.Sum.{total, weighted, entryOf}
-use Rattle.tables.specs.Held.{valueOf, unitAt}
+use Rattle.tables.specs.Units.{unitAt}
+use Rattle.tables.specs.Held.{valueOf}
 use Rattle.tables.proofs.UnitAt.{first-unit, second-unit, third-unit, rest-unit}
 use Rattle.curves.specs.Work.{stretchSum, Stretched}
 use Rattle.curves.proofs.Rows.{full-short, one-stretch-more}

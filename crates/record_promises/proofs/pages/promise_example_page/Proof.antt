@@ -3,8 +3,7 @@ use mathlib.Core.Path.{refl}
 use Rattle.mixing.specs.Nearest.{nearest}
 use Rattle.mixing.specs.Sum.{weighted, total}
 use Rattle.grid.specs.Check.{gridCheck, limitCheck, lightCheck}
-use Rattle.tables.specs.Curves.{table}
-use Rattle.tables.specs.Tables.{xBar, yBar, zBar, vPrime}
+use Rattle.tables.specs.Tables.{table}
 use Rattle.spectrum.specs.Line.{lineAt, endRule, T, W}
 use Rattle.answers.specs.Worked.{xyFrom}
 use Rattle.efficacy.specs.Efficacy.{atReference}
@@ -18,7 +17,7 @@ use Rattle.record_promises.proofs.pages.promise_example_page.Statement.
 use Rattle.record_promises.proofs.pages.promise_example_page.Tie as tie
 
 returns : tie.Need-returns
-unfolding nearest weighted total xBar yBar zBar vPrime endRule gridCheck limitCheck atReference table lightCheck lineAt T W xyFrom figuresOf bitsOf num pack cut recordOf headerOf fieldsOf samplesOf paddingOf headerCheck bodyCheck recordCheck digits coordinate line colourLines figureLines textOf recordedFigures
+unfolding nearest weighted total endRule gridCheck limitCheck atReference table lightCheck lineAt T W xyFrom figuresOf bitsOf num pack cut recordOf headerOf fieldsOf samplesOf paddingOf headerCheck bodyCheck recordCheck digits coordinate line colourLines figureLines textOf recordedFigures
 returns c = record { page = refl }
 
 pub promise-example-page-spec : {M : Type 1} → statement M

@@ -5,8 +5,7 @@ use native.Mathlib.Omega.{arith}
 use Rattle.grid.specs.Check.{gridCheck, limitCheck, lightCheck}
 use Rattle.mixing.specs.Nearest.{nearest}
 use Rattle.mixing.specs.Sum.{total, weighted}
-use Rattle.tables.specs.Tables.{xBar, yBar, zBar}
-use Rattle.tables.specs.Curves.{table}
+use Rattle.tables.specs.Tables.{table}
 use Rattle.spectrum.specs.Line.{T, lineAt, endRule, W}
 use Rattle.answers.specs.Worked.{xyFrom, uvFrom}
 use Rattle.efficacy.specs.Efficacy.{atReference}
@@ -23,7 +22,7 @@ apart : {version slip ours i : ℕ} {asked : Asked} → version ≡ slip → val
 apart p q unlike = record { gives = p; is = q; not-ours = λ e. unlike (sym p ∙ e ∙ q) }
 
 returns : tie.Need-returns
-unfolding answerOf filledDown illuminanceOf xyzOf xyOf uvOf xyFrom uvFrom lightCheck gridCheck limitCheck W weighted total T lineAt endRule atReference table xBar yBar zBar nearest
+unfolding answerOf filledDown illuminanceOf xyzOf xyOf uvOf xyFrom uvFrom lightCheck gridCheck limitCheck W weighted total T lineAt endRule atReference table nearest
 returns c = record {
   x-from-rounded = apart refl refl (λ e. omega arith);
   u-from-rounded = apart refl refl (λ e. omega arith);

@@ -1,6 +1,5 @@
 -- Everything is the columns' own; the printed sums are the exact ones, rounded.
 use Rattle.mixing.specs.Nearest.{nearest}
-use Rattle.tables.specs.Curves.{table}
 use Rattle.tables.specs.declared.Curve.the-variants.{XBar, YBar, ZBar, XBar10, YBar10, ZBar10}
 use Rattle.tables.proofs.Largest.{at-most-largest}
 use Rattle.tables.proofs.Columns.{column, powers-column}
@@ -10,7 +9,7 @@ use Rattle.tables.proofs.promises.promise_columns.Statement.{statement}
 use Rattle.tables.proofs.promises.promise_columns.Tie as tie
 
 returns : tie.Need-returns
-unfolding nearest table
+unfolding nearest
 returns c =
     record {
       bounded = at-most-largest;
