@@ -65,6 +65,9 @@ qr_reading qr_scotopic(uint32_t start, uint32_t step, const uint32_t *samples, s
 qr_reading qr_photopic_10(uint32_t start, uint32_t step, const uint32_t *samples, size_t count);
 qr_reading qr_mesopic(uint32_t k, uint32_t start, uint32_t step, const uint32_t *samples, size_t count);
 
+/* A research figure: illuminance in millilux by the cone-fundamental curve of 2° (observer 32) or of 10° (40). These have no colour. */
+qr_reading qr_research(uint32_t observer, uint32_t start, uint32_t step, const uint32_t *samples, size_t count);
+
 /* X, Y, Z in millilux; x, y and u', v' in hundred-thousandths; the chart's point, which is these four as floats. All but X, Y, Z
    are DARK where the three exact sums are 0. Observer 2 or 10. */
 qr_xyz_answer qr_xyz(uint32_t observer, uint32_t start, uint32_t step, const uint32_t *samples, size_t count);

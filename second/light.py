@@ -59,7 +59,7 @@ class Refused:
 
 
 def load_tables():
-    """The nine columns of tables.txt, each a list over 360 to 830 nm."""
+    """The columns of tables.txt, each a list over 360 to 830 nm."""
     lines = Path(__file__).with_name("tables.txt").read_text(encoding="utf-8").splitlines()
     rows = [[int(cell) for cell in line.split()] for line in lines if not line.startswith("#")]
     wavelengths, *columns = (list(column) for column in zip(*rows, strict=True))
@@ -68,7 +68,7 @@ def load_tables():
     return columns
 
 
-X, Y, Z, X10, Y10, Z10, V_PRIME, A, D65 = load_tables()
+X, Y, Z, X10, Y10, Z10, V_PRIME, A, D65, V_F, V_F10 = load_tables()
 V, V10 = Y, Y10
 
 
@@ -87,9 +87,14 @@ def reference_value(weights):
     return (983 * table_value(weights, 555) + 17 * table_value(weights, 556)) / 1000
 
 
+def efficacy_of_one(weights):
+    """The efficacy where the curve's value is one: 683 over the value at 555.017 nm."""
+    return 683 / reference_value(weights)
+
+
 def efficacy_at(peak, weights):
-    """683 times the table value at the curve's peak, over the value at 555.017 nm."""
-    return 683 * table_value(weights, peak) / reference_value(weights)
+    """That efficacy times the table value at the curve's peak."""
+    return table_value(weights, peak) * efficacy_of_one(weights)
 
 
 # Made once, since every reading takes one of them.
@@ -103,6 +108,12 @@ V_PRIME_REFERENCE = reference_value(V_PRIME)
 OBSERVERS = {
     2: (PHOTOPIC_EFFICACY, (X, Y, Z)),
     10: (PHOTOPIC_10_EFFICACY, (X10, Y10, Z10)),
+}
+# The observers of the cone-fundamental curves, 2° and 10°. These have a curve
+# each and no colour, and their efficacy is not one at a peak.
+RESEARCH_OBSERVERS = {
+    32: (efficacy_of_one(V_F), V_F),
+    40: (efficacy_of_one(V_F10), V_F10),
 }
 ILLUMINANTS = {1: A, 2: D65}
 
@@ -250,6 +261,13 @@ def mesopic(k, start, step, samples):
     mixed = k * weigh(V, row) + (1000 - k) * weigh(V_PRIME, row)
     bracket = 1000 * (k * V_REFERENCE + (1000 - k) * V_PRIME_REFERENCE)
     return nearest(683_000 * mixed, step * SCALE * bracket)
+
+
+def research(observer, start, step, samples):
+    """Illuminance in millilux under a cone-fundamental curve."""
+    if observer not in RESEARCH_OBSERVERS:
+        return Refused(OBSERVER)
+    return illuminance(*RESEARCH_OBSERVERS[observer], start, step, samples)
 
 
 def xyz(observer, start, step, samples):

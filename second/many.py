@@ -11,7 +11,7 @@ The generator. A state runs from 1 to 2147483646. A draw makes it s * 48271 % 21
    6: draw % 41 * 25000; 7: k * 1999 % 1000001. Then, in modes 1 and 5 and where count is not 0, the sample at draw % count
    becomes draw % 1000001 in mode 1, and 1000001 + draw % 5 in mode 5.
 5. d: k of the mesopic reading is d % 1100.
-6. d: observer is OBSERVER[d % 8].
+6. d: observer is OBSERVER[d % 16], for every answer that takes an observer.
 7. d: illuminant is ILLUMINANT[d % 8].
 
 8. d: the record is written where there is room for d % 1332 bytes, and then where there is room for any.
@@ -20,7 +20,8 @@ The generator. A state runs from 1 to 2147483646. A draw makes it s * 48271 % 21
 10. d: 1 + d % 255 is added to that byte, % 256; and the last d // 255 % 2 bytes are cut off.
 11. d: the damaged record is read into a row with room for 531 where d is even, else for d // 2 % 532.
 
-The reflectances are the samples % 10001, in mode 5 % 10007. A float is printed as the number of its 64 bits.
+The reflectances are the samples % 10001, in mode 5 % 10007. A float is printed as the number of its 64 bits. The research
+reading stands directly after the mesopic one.
 """
 
 import struct
@@ -30,7 +31,7 @@ import light
 STEP = (1, 2, 5, 10, 1, 2, 5, 10, 1, 2, 5, 10, 1, 2, 3, 0)
 START = (299, 381, 0, 4294967295)
 COUNT = (0, 1, 40, 532)
-OBSERVER = (2, 10, 2, 10, 2, 10, 3, 0)
+OBSERVER = (2, 10, 2, 10, 2, 10, 2, 10, 32, 40, 32, 40, 32, 40, 3, 0)
 ILLUMINANT = (1, 2, 1, 2, 1, 2, 0, 3)
 
 
@@ -142,7 +143,7 @@ def line(i):
     mode = draws.draw() % 8
     samples = samples_from(draws, mode, count)
     k = draws.draw() % 1100
-    observer = OBSERVER[draws.draw() % 8]
+    observer = OBSERVER[draws.draw() % 16]
     illuminant = ILLUMINANT[draws.draw() % 8]
     reflectances = [sample % (10007 if mode == 5 else 10001) for sample in samples]
     lit = start, step, samples
@@ -152,6 +153,7 @@ def line(i):
         shown(light.scotopic(*lit)),
         shown(light.photopic_10(*lit)),
         shown(light.mesopic(k, *lit)),
+        shown(light.research(observer, *lit)),
         shown(light.xyz(observer, *lit)),
         shown(light.xy(observer, *lit)),
         shown(light.uv(observer, *lit)),

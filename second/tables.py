@@ -1,4 +1,4 @@
-"""Extracts the nine tables of the light readings from the source documents.
+"""Extracts the tables of the light readings from the source documents.
 
     python3 second/tables.py write [DOCUMENTS]    writes tables.txt
     python3 second/tables.py check [DOCUMENTS]    exits 1 if tables.txt differs
@@ -6,12 +6,19 @@
 DOCUMENTS is the folder of the documents' text; without it, the folder `shared`
 beside the repository root. All numbers are whole: weights at 10^13 to one,
 illuminants at 10^5 to one. Whatever can't be read stops the extraction.
+
+The text of document 003 has the 2° cone-fundamental curve up to 503 nm only and
+nothing of the 10° one. So the rows of the 2° curve from 504 on and all rows of
+the 10° curve are not from a document: they are from cone_fundamental_curves.tsv,
+which lies beside the documents. Where both have a row they must agree in every
+digit.
 """
 
 import argparse
 import re
 import sys
 from decimal import Context, Decimal, localcontext
+from itertools import zip_longest
 from pathlib import Path
 
 TABLES = Path(__file__).with_name("tables.txt")
@@ -21,6 +28,12 @@ WAVELENGTHS = range(360, 831)
 WEIGHT_PLACES = 13
 ILLUMINANT_PLACES = 5
 SUM_PLACES = 12
+
+# The cone-fundamental curves, and what the text of document 003 has of the 2° one.
+CURVES = "cone_fundamental_curves.tsv"
+CURVES_HEAD = "nm\tV_F\tV_F10"
+CURVE_WAVELENGTHS = range(390, 831)
+PRINTED_CURVE = range(390, 504)
 
 # The text of document 004 has A up to here, and D65 undamaged up to here.
 LAST_PRINTED_A = 799
@@ -40,8 +53,11 @@ PUBLISHED_D65 = {
 # Lines that stand among a table's rows, emphasis marks taken off.
 NO_ROW = re.compile(
     r"|(Table|TABLE) \d \(continued\)|\(λ in standard air\)|Wave-length .*|\t\$.*|λ ?/ ?nm\t.*"
+    r"|for 2° field size"
 )
 DECIMAL = re.compile(r"(\d+),(\d+(?: \d+)*)")
+CURVE_CELL = rf"(\d\.\d{{{WEIGHT_PLACES}}})"
+CURVES_ROW = re.compile(rf"(\d{{3}})\t{CURVE_CELL}\t{CURVE_CELL}")
 SUM = re.compile(r"\$\$\\(?:Sigma|sum) \\bar\{([xyz])\}(?:_\{(10)\})?\(\\lambda\) = (.*)\$\$")
 
 HEAD = """\
@@ -50,7 +66,9 @@ HEAD = """\
 # A from 800 on is equation (1) of document 004 to six significant digits, and
 # D65 from 761 on is the straight line between published tens: the text of
 # document 004 stops or is damaged there.
-# wavelength x y z x10 y10 z10 vprime a d65
+# vf from 504 on and all of vf10 are from cone_fundamental_curves.tsv: the text of
+# document 003 doesn't have them.
+# wavelength x y z x10 y10 z10 vprime a d65 vf vf10
 """
 
 
@@ -131,9 +149,37 @@ def observer(lines, head):
 
 
 def luminosity(lines, head, end, wavelengths):
-    """One efficiency function of document 003, 0 outside its own range."""
-    table = weights(rows(section(lines, head, end), 2, wavelengths), 0)
+    """One efficiency function of document 003, as far as it is printed."""
+    return weights(rows(section(lines, head, end), 2, wavelengths), 0)
+
+
+def widened(table):
+    """A function from 360 to 830, 0 outside its own range."""
     return {w: table.get(w, 0) for w in WAVELENGTHS}
+
+
+def curves(folder):
+    """The 2° and the 10° cone-fundamental curve, each row in its place and with every digit."""
+    path = folder / CURVES
+    if not path.exists():
+        raise Unreadable(f"{CURVES} is missing")
+    lines = path.read_text(encoding="utf-8").splitlines()
+    if lines[:1] != [CURVES_HEAD]:
+        raise Unreadable(f"{CURVES} doesn't begin with its head")
+    two, ten = {}, {}
+    for w, line in zip_longest(CURVE_WAVELENGTHS, lines[1:]):
+        match = CURVES_ROW.fullmatch(line or "")
+        if not match or int(match[1]) != w:
+            raise Unreadable(f"{CURVES} has '{line}' in the place of {w} nm")
+        two[w], ten[w] = (int(cell.replace(".", "")) for cell in match.groups()[1:])
+    return two, ten
+
+
+def check_curve(printed, curve):
+    """Holds the rows that document 003 prints against the curve."""
+    for w, weight in printed.items():
+        if curve[w] != weight:
+            raise Unreadable(f"{CURVES} isn't document 003 at {w} nm")
 
 
 def check_sums(lines, functions):
@@ -205,8 +251,12 @@ def extract(folder):
         raise Unreadable("V10 of document 003 isn't y10 of document 002")
     vprime = luminosity(three, "Table 7 —", "9.3", range(380, 781))
 
+    vf, vf10 = curves(folder)
+    check_curve(luminosity(three, "Table E.1 —", None, PRINTED_CURVE), vf)
+
     power = rows(section(four, "TABLE 1. ", None), 3, range(300, LAST_PRINTED_A + 1))
-    tables = x, y, z, x10, y10, z10, vprime, illuminant_a(power), illuminant_d65(power)
+    illuminants = illuminant_a(power), illuminant_d65(power)
+    tables = x, y, z, x10, y10, z10, widened(vprime), *illuminants, widened(vf), widened(vf10)
     return HEAD + "".join(
         " ".join(str(number) for number in (w, *(table[w] for table in tables))) + "\n"
         for w in WAVELENGTHS

@@ -4,13 +4,18 @@
 """
 
 import random
+import shutil
+import tempfile
 import unittest
 from fractions import Fraction
 from itertools import combinations, product
 from math import exp, hypot
 from operator import add, mul
+from pathlib import Path
 
 import light
+import many
+import tables
 from light import Refused
 
 FULL = 1_000_000
@@ -21,6 +26,8 @@ TOO_LARGE = 1_000_001
 V_REFERENCE = Fraction("0.9999975639")  # 0.983 * 1 + 0.017 * 0.9998567
 V_PRIME_REFERENCE = Fraction("0.4017348")  # 0.983 * 0.402 + 0.017 * 0.3864
 V10_REFERENCE = Fraction("0.99912122")  # 0.983 * 0.99911 + 0.017 * 0.99977
+V_F_REFERENCE = Fraction("0.9994698474")  # 0.983 * 0.9994608 + 0.017 * 0.999993
+V_F10_REFERENCE = Fraction("0.9997803305")  # 0.983 * 0.9997775 + 0.017 * 0.999944
 PHOTOPIC = 683 / V_REFERENCE
 SCOTOPIC = 683 / V_PRIME_REFERENCE
 PHOTOPIC_10 = 683 / V10_REFERENCE
@@ -95,6 +102,7 @@ def light_readings():
         "10° photopic": light.photopic_10,
         "figures": light.figures,
         **{f"mesopic {k}": lambda *given, k=k: light.mesopic(k, *given) for k in (0, 500, 1000)},
+        **{f"research {o}": lambda *given, o=o: light.research(o, *given) for o in (32, 40)},
         **{f"X, Y, Z {o}": lambda *given, o=o: light.xyz(o, *given) for o in (2, 10)},
         **colour_readings(),
         **{f"chart {o}": lambda *given, o=o: light.chart(o, *given) for o in (2, 10)},
@@ -142,6 +150,30 @@ class Tables(unittest.TestCase):
         self.assertFalse(any(light.V_PRIME[: 380 - 360]))
         self.assertFalse(any(light.V_PRIME[781 - 360 :]))
 
+    def test_cone_fundamental_weight_is_0_below_390(self):
+        for table, first, last in (
+            (light.V_F, 4146161000, 7053860),
+            (light.V_F10, 4076779000, 6345380),
+        ):
+            self.assertFalse(any(table[: 390 - 360]))
+            self.assertEqual(self.entry(table, 390), first)
+            self.assertEqual(self.entry(table, 830), last)
+            self.assertTrue(all(table[390 - 360 :]))
+
+    def test_cone_fundamental_sums_and_largest_entries(self):
+        self.assertEqual(sum(light.V_F), 113_0423145723374)
+        self.assertEqual(sum(light.V_F10), 118_5180915321789)
+        # The peaks are one, but at 556.1 and 555.7, so no entry is.
+        for table, largest in ((light.V_F, 9999930 * 10**6), (light.V_F10, 9999440 * 10**6)):
+            self.assertEqual(max(table), largest)
+            self.assertEqual([w for w in range(360, 831) if self.entry(table, w) == largest], [556])
+
+    def test_cone_fundamental_entries_around_the_last_printed_one(self):
+        self.assertEqual(self.entry(light.V_F, 503), 3941359 * 10**6)
+        self.assertEqual(self.entry(light.V_F, 504), 4106582 * 10**6)
+        self.assertEqual(self.entry(light.V_F10, 503), 5197057 * 10**6)
+        self.assertEqual(self.entry(light.V_F10, 504), 5343012 * 10**6)
+
     def test_illuminants_where_the_text_is_damaged(self):
         self.assertEqual(self.entry(light.A, 799), 249_91800)
         self.assertEqual(self.entry(light.A, 800), 250_32900)
@@ -160,6 +192,8 @@ class Bench(unittest.TestCase):
         self.assertEqual(light.scotopic(*given), 0)
         self.assertEqual(light.photopic_10(*given), 0)
         self.assertEqual(light.mesopic(500, *given), 0)
+        self.assertEqual(light.research(32, *given), 0)
+        self.assertEqual(light.research(40, *given), 0)
         self.assertEqual(light.xyz(2, *given), (0, 0, 0))
         self.assertEqual(light.xy(2, *given), Refused(9))
         self.assertEqual(light.uv(2, *given), Refused(9))
@@ -539,6 +573,81 @@ class MesopicEnds(unittest.TestCase):
                 self.assertEqual(self.assert_ends(start, step, samples), (refused, refused))
 
 
+class Research(unittest.TestCase):
+    """Illuminance under the cone-fundamental curves, 2° and 10°."""
+
+    def assert_reads(self, two, ten, *given):
+        self.assertEqual(light.research(32, *given), two)
+        self.assertEqual(light.research(40, *given), ten)
+
+    def test_lone_wavelengths_that_tell_the_curves_apart(self):
+        self.assert_reads(58_187, 96_637, 380, 1, lone(FULL, 460))
+        self.assert_reads(141_103, 212_421, 380, 1, lone(FULL, 485))
+        self.assert_reads(683_195, 682_617, 380, 1, lone(FULL, 557))
+
+    def test_every_wavelength_has_its_own_weight(self):
+        for observer, (efficacy, weights) in RESEARCH.items():
+            for wavelength in range(360, 831):
+                samples = lone(FULL, wavelength, start=360, last=830)
+                expected = greatest_illuminance(efficacy, [weights[wavelength - 360]])
+                self.assertEqual(light.research(observer, 360, 1, samples), expected)
+
+    def test_light_at_555_017_reads_683_lumens_to_the_watt(self):
+        for parts in (1, 2, 500, 1017):
+            given = 380, 1, pair((983 * parts, 555), (17 * parts, 556))
+            self.assert_reads(683 * parts, 683 * parts, *given)
+
+    def test_efficacies(self):
+        for observer, expected in RESEARCH.items():
+            self.assertEqual(light.RESEARCH_OBSERVERS[observer], expected)
+
+    def test_there_is_no_peak_factor(self):
+        # With one the full light would read the second, a little less.
+        slipped = {32: (77_248_855, 77_248_314), 40: (80_965_642, 80_961_108)}
+        for observer, (expected, slip) in slipped.items():
+            efficacy, weights = RESEARCH[observer]
+            factor = Fraction(max(weights), 10**13)
+            self.assertEqual(light.research(observer, 360, 1, [FULL] * 471), expected)
+            self.assertEqual(greatest_illuminance(factor * efficacy, weights), slip)
+
+    def test_light_below_390_reads_0_and_at_390_it_doesn_t(self):
+        self.assert_reads(0, 0, 360, 1, [FULL] * 30 + [0] * 441)
+        self.assert_reads(283, 279, 360, 1, lone(FULL, 390, start=360, last=830))
+        self.assert_reads(0, 0, 380, 1, lone(FULL, 389))
+        self.assert_reads(283, 279, 380, 1, lone(FULL, 390))
+
+    def test_light_below_390_on_any_grid(self):
+        for start, step, count in grids():
+            # A sample is felt up to where the next one stands.
+            unfelt = (390 - start) // step
+            samples = [FULL] * unfelt + [0] * (count - unfelt)
+            with self.subTest(start=start, step=step, count=count):
+                self.assert_reads(0, 0, start, step, samples)
+                samples[unfelt] = FULL
+                self.assertGreater(light.research(32, start, step, samples), 0)
+                self.assertGreater(light.research(40, start, step, samples), 0)
+
+    def test_the_last_sample_is_carried_up_to_830(self):
+        for observer, (efficacy, weights) in RESEARCH.items():
+            expected = greatest_illuminance(efficacy, weights[780 - 360 :])
+            self.assertEqual(light.research(observer, 380, 1, lone(FULL, 780)), expected)
+        self.assert_reads(160, 144, 380, 1, lone(FULL, 780))
+
+    def test_exact_halves_go_up(self):
+        cases = [
+            (32, "341.5", ((1_885, 460), (413, 527)), ((1_884, 460), (413, 527))),
+            (32, "1707.5", ((1_058, 555), (8_881, 644)), ((1_058, 555), (8_880, 644))),
+            (40, "1707.5", ((1_939, 600), (50_735, 419)), ((1_939, 600), (50_734, 419))),
+            (40, "8537.5", ((13, 557), (136_905, 446)), ((13, 557), (136_904, 446))),
+        ]
+        for observer, half, row, less in cases:
+            with self.subTest(observer=observer, half=half):
+                self.assertEqual(unrounded(*RESEARCH[observer], pair(*row)), Fraction(half))
+                up = int(Fraction(half) + Fraction(1, 2))
+                self.assertEqual(light.research(observer, 380, 1, pair(*row)), up)
+                self.assertEqual(light.research(observer, 380, 1, pair(*less)), up - 1)
+
+
 class Ends(unittest.TestCase):
     """The first sample is carried down to 360 and the last one up to 830."""
 
@@ -684,6 +793,7 @@ class Mixing(unittest.TestCase):
             light.scotopic(*given),
             light.photopic_10(*given),
             *(light.mesopic(k, *given) for k in (0, 500, 1000)),
+            *(light.research(observer, *given) for observer in (32, 40)),
             *light.xyz(2, *given),
             *light.xyz(10, *given),
         )
@@ -788,6 +898,10 @@ OBSERVERS = {
     2: (PHOTOPIC, (light.X, light.Y, light.Z)),
     10: (PHOTOPIC_10, (light.X10, light.Y10, light.Z10)),
 }
+RESEARCH = {
+    32: (683 / V_F_REFERENCE, light.V_F),
+    40: (683 / V_F10_REFERENCE, light.V_F10),
+}
 ILLUMINANTS = {1: light.A, 2: light.D65}
 
 
@@ -826,6 +940,7 @@ class Greatest(unittest.TestCase):
         photopic = greatest_illuminance(PHOTOPIC, light.V)
         scotopic = greatest_illuminance(SCOTOPIC, light.V_PRIME)
         photopic_10 = greatest_illuminance(PHOTOPIC_10, light.V10)
+        research = {observer: greatest_illuminance(*given) for observer, given in RESEARCH.items()}
         for start, step, count in grids():
             full = start, step, [FULL] * count
             with self.subTest(start=start, step=step, count=count):
@@ -834,6 +949,8 @@ class Greatest(unittest.TestCase):
                 self.assertEqual(light.photopic_10(*full), photopic_10)
                 for k in (0, 500, 1000):
                     self.assertEqual(light.mesopic(k, *full), greatest_mesopic(k))
+                for observer, greatest in research.items():
+                    self.assertEqual(light.research(observer, *full), greatest)
                 for observer in OBSERVERS:
                     self.assertEqual(light.xyz(observer, *full), greatest_xyz(observer))
 
@@ -851,6 +968,8 @@ class Greatest(unittest.TestCase):
         self.assertEqual(light.photopic(*full), 72_983_452)
         self.assertEqual(light.scotopic(*full), 165_033_523)
         self.assertEqual(light.photopic_10(*full), 79_750_145)
+        self.assertEqual(light.research(32, *full), 77_248_855)
+        self.assertEqual(light.research(40, *full), 80_965_642)
         mesopic = {
             0: 165_033_523,
             1: 164_804_733,
@@ -894,6 +1013,7 @@ class Greatest(unittest.TestCase):
             greatest_illuminance(SCOTOPIC, light.V_PRIME),
             greatest_illuminance(PHOTOPIC_10, light.V10),
             *map(greatest_mesopic, range(1001)),
+            *(greatest_illuminance(*given) for given in RESEARCH.values()),
             *greatest_xyz(2),
             *greatest_xyz(10),
             *greatest_panel_xyz(2, 1),
@@ -953,10 +1073,30 @@ class Refusals(unittest.TestCase):
         bad = 299, 3, [TOO_LARGE]
         for k in (1001, 4_294_967_295):
             self.assertEqual(light.mesopic(k, *bad), Refused(5))
-        for observer in (0, 1, 3, 4_294_967_295):
+        # 32 and 40 have no colour.
+        for observer in (0, 1, 3, 32, 40, 4_294_967_295):
             for reading in (light.xyz, light.xy, light.uv, light.chart):
                 self.assertEqual(reading(observer, *bad), Refused(6))
                 self.assertEqual(reading(observer, 380, 1, [0] * 401), Refused(6))
+
+    def test_research_is_of_32_and_40_alone(self):
+        for observer in (0, 1, 2, 3, 10, 31, 33, 39, 41, 4_294_967_295):
+            with self.subTest(observer=observer):
+                self.assertEqual(light.research(observer, 299, 3, [TOO_LARGE]), Refused(6))
+                self.assertEqual(light.research(observer, 380, 1, [0] * 401), Refused(6))
+
+    def test_research_observers_have_no_panels(self):
+        readings = (
+            light.panel_xyz,
+            light.panel_xy,
+            light.panel_uv,
+            light.panel_chart,
+            light.panel_figures,
+        )
+        for reading, observer, illuminant in product(readings, RESEARCH, (0, 1, 2)):
+            with self.subTest(reading.__name__, observer=observer, illuminant=illuminant):
+                answer = reading(observer, illuminant, 360, 1, panel(1))
+                self.assertEqual(answer, Refused(6))
 
     def test_a_faulty_sample_comes_before_dark(self):
         # At 300 nm it carries no weight, so the rest is dark.
@@ -1008,6 +1148,13 @@ class Refusals(unittest.TestCase):
             self.assertEqual(xy(*given), refused)
             self.assertEqual(uv(*given), refused)
             self.assertEqual(chart(*given), "dark" if refused == Refused(9) else refused)
+
+    def test_any_faults_of_a_light_whose_research_figure_is_asked(self):
+        for faults, observer in product(sets_in_order(6, 1, 2, 3, 4), RESEARCH):
+            given = 2 if 6 in faults else observer, *self.faulty(faults, TOO_LARGE)
+            with self.subTest(faults=faults, observer=observer):
+                refused = Refused(faults[0], 7 if faults[0] == 4 else 0)
+                self.assertEqual(light.research(*given), refused)
 
     def test_any_faults_of_a_light_whose_colour_is_asked(self):
         self.assertNotIsInstance(light.uv(2, *self.faulty((), TOO_LARGE)), Refused)
@@ -1145,6 +1292,145 @@ class Report(unittest.TestCase):
         self.assertEqual(light.report(longest)[:10], b"photopic 0")
         for extra in (1, 2, 10_000):
             self.assertEqual(light.report(longest + b"\0" * extra), b"refused 12\n")
+
+
+class Many(unittest.TestCase):
+    def test_the_research_reading_stands_after_the_mesopic_one(self):
+        found = set()
+        for i in range(100):
+            *_, mesopic, research, xyz = many.line(i).split()[:7]
+            self.assertNotEqual(mesopic, "!6@0")
+            self.assertNotIn(",", research)
+            found.add((research == "!6@0", xyz == "!6@0"))
+        # No observer has both, and some have neither.
+        self.assertEqual(found, {(False, True), (True, False), (True, True)})
+
+
+@unittest.skipUnless((tables.DOCUMENTS / tables.CURVES).exists(), "the source documents are not at hand")
+class Extraction(unittest.TestCase):
+    """tables.py at work on a copy of the documents, some of it changed."""
+
+    def setUp(self):
+        copy = tempfile.TemporaryDirectory()
+        self.addCleanup(copy.cleanup)
+        self.folder = Path(copy.name)
+        for pattern in ("00[234]_*.txt", tables.CURVES):
+            for document in tables.DOCUMENTS.glob(pattern):
+                shutil.copy(document, self.folder)
+
+    def curve_rows(self):
+        """The file's rows from 390 on, each with the end of its line."""
+        text = (self.folder / tables.CURVES).read_text(encoding="utf-8")
+        return text.splitlines(keepends=True)[1:]
+
+    def extracted_with(self, pattern, old, new):
+        """What is extracted where `old`, which stands in that document once, is `new`."""
+        (path,) = self.folder.glob(pattern)
+        text = path.read_text(encoding="utf-8")
+        self.assertEqual(text.count(old), 1)
+        path.write_text(text.replace(old, new), encoding="utf-8")
+        try:
+            return tables.extract(self.folder)
+        finally:
+            path.write_text(text, encoding="utf-8")
+
+    def assert_stops(self, pattern, *changes):
+        for old, new in changes:
+            with self.subTest(old=old, new=new), self.assertRaises(tables.Unreadable):
+                self.extracted_with(pattern, old, new)
+
+    def test_the_documents_give_tables_txt(self):
+        tables.check(tables.extract(self.folder))
+
+    def test_every_digit_of_the_curves_is_held(self):
+        rows = [[Fraction(cell) for cell in row.split("\t")] for row in self.curve_rows()]
+        held = zip(range(360, 831), light.V_F, light.V_F10, strict=True)
+        expected = [[w, Fraction(two, 10**13), Fraction(ten, 10**13)] for w, two, ten in held]
+        self.assertEqual(rows, expected[390 - 360 :])
+
+    def test_a_digit_that_the_document_doesn_t_have(self):
+        self.assert_stops(
+            tables.CURVES,
+            ("\n390\t0.0004146161000\t", "\n390\t0.0004146162000\t"),
+            ("\n390\t0.0004146161000\t", "\n390\t1.0004146161000\t"),
+            ("\n460\t0.0851481600000\t", "\n460\t0.0841481600000\t"),
+            ("\n503\t0.3941359000000\t", "\n503\t0.3941358000000\t"),
+            # The document prints one digit less, which is as good as a 0.
+            ("\n503\t0.3941359000000\t", "\n503\t0.3941359000001\t"),
+        )
+
+    def test_a_printed_digit_that_the_curve_doesn_t_have(self):
+        self.assert_stops(
+            "003_*.txt",
+            ("390\t0,000 414 616 100\t", "390\t0,000 414 616 200\t"),
+            ("427\t0,028 749 930 000\t", "427\t0,028 749 930 001\t"),
+            ("428\t0,030 169 090 000\t", "428\t0,031 169 090 000\t"),
+            ("466\t0,110 737 700 000", "466\t1,110 737 700 000"),
+            ("503\t0,394 135 900 000", "503\t0,394 135 800 000"),
+        )
+
+    def test_a_printed_row_that_isn_t_there(self):
+        self.assert_stops(
+            "003_*.txt",
+            ("\t503\t0,394 135 900 000", "\t\t"),
+            ("\t503\t0,394 135 900 000", "\t502\t0,378 227 500 000"),
+            ("\t503\t0,394 135 900 000", "\t503\t"),
+            ("\t503\t0,394 135 900 000", "\t504\t0,410 658 200 000"),
+        )
+
+    def test_no_printed_row_goes_unheld(self):
+        curve, _ = tables.curves(self.folder)
+        lines = tables.document(self.folder, "003")
+        printed = tables.luminosity(lines, "Table E.1 —", None, range(390, 504))
+        tables.check_curve(printed, curve)
+        for wavelength in range(390, 504):
+            with self.assertRaisesRegex(tables.Unreadable, f"{wavelength} nm"):
+                tables.check_curve(printed, {**curve, wavelength: curve[wavelength] + 1})
+
+    def test_a_row_that_is_missing_doubled_or_out_of_order(self):
+        first, *_, row, last = self.curve_rows()
+        self.assert_stops(
+            tables.CURVES,
+            (first, ""),
+            (first, first.replace("390", "389") + first),
+            (row, ""),
+            (row, row + row),
+            (row + last, last + row),
+            (last, ""),
+            (last, last + last),
+            (last, last + last.replace("830", "831")),
+            ("nm\tV_F\tV_F10\n", ""),
+            ("nm\tV_F\tV_F10\n", "nm\tV_F10\tV_F\n"),
+        )
+
+    def test_a_row_that_is_no_number(self):
+        row = "600\t0.6918553000000\t0.6629035000000\n"
+        self.assert_stops(
+            tables.CURVES,
+            (row, "\n"),
+            (row, "6O0\t0.6918553000000\t0.6629035000000\n"),
+            (row, "600\t\t0.6629035000000\n"),
+            (row, "600\tO.6918553000000\t0.6629035000000\n"),
+            (row, "600\t-0.6918553000000\t0.6629035000000\n"),
+            (row, "600\t0.6918553000000\tnan\n"),
+            (row, "600\t0.6918553000000\t0.662903500000\n"),
+            (row, "600\t0.6918553000000\t0.66290350000000\n"),
+            (row, "600\t0.6918553000000\n"),
+        )
+
+    def test_a_curve_that_isn_t_there(self):
+        (self.folder / tables.CURVES).unlink()
+        with self.assertRaises(tables.Unreadable):
+            tables.extract(self.folder)
+
+    def test_a_digit_that_no_document_has_is_held_by_tables_txt(self):
+        for old, new in (
+            ("\n504\t0.4106582000000\t", "\n504\t0.4106582000001\t"),
+            ("\t0.0004076779000\n", "\t0.0004076779001\n"),
+        ):
+            text = self.extracted_with(tables.CURVES, old, new)
+            with self.assertRaises(tables.Unreadable):
+                tables.check(text)
 
 
 if __name__ == "__main__":

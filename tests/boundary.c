@@ -24,6 +24,9 @@ static void lights(void) {
     expect("qr_mesopic", qr_mesopic(500, 380, 1, samples, 401).value == 305508);
     expect("mesopic at 0 is scotopic", qr_mesopic(0, 380, 1, samples, 401).value == 963972);
     expect("mesopic at 1000 is photopic", qr_mesopic(1000, 380, 1, samples, 401).value == 40980);
+    qr_reading research = qr_research(32, 380, 1, samples, 401);
+    expect("qr_research", research.number == 0 && research.place == 0 && research.value == 58187);
+    expect("qr_research of 10°", qr_research(40, 380, 1, samples, 401).value == 96637);
     qr_xyz_answer xyz = qr_xyz(2, 380, 1, samples, 401);
     expect("qr_xyz", xyz.number == 0 && xyz.x == 198617 && xyz.y == 40980 && xyz.z == 1140066);
     qr_xy_answer xy = qr_xy(2, 380, 1, samples, 401);
@@ -88,6 +91,9 @@ static void refusals(void) {
     expect("START", qr_photopic_10(381, 1, samples, 401).number == QR_START);
     expect("MESOPIC", qr_mesopic(1001, 380, 1, samples, 401).number == QR_MESOPIC);
     expect("OBSERVER", qr_xyz(3, 380, 1, samples, 401).number == QR_OBSERVER);
+    qr_reading no_research = qr_research(2, 380, 3, samples, 401);
+    expect("OBSERVER of a research figure", no_research.number == QR_OBSERVER && no_research.place == 0 && no_research.value == 0);
+    expect("OBSERVER of X, Y, Z for 32", qr_xyz(32, 380, 1, samples, 401).number == QR_OBSERVER);
     expect("COUNT", qr_figures(380, 1, samples, 400).number == QR_COUNT);
     qr_chart_answer no_chart = qr_chart(3, 380, 1, samples, 401);
     expect("OBSERVER of a chart", no_chart.number == QR_OBSERVER && no_chart.place == 0 && no_chart.x == 0.0 &&

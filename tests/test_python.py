@@ -69,12 +69,18 @@ class Lights(Case):
         self.assertEqual(quailribbon.photopic_10(380, 1, example()), 87638)
         self.assertEqual([quailribbon.mesopic(k, 380, 1, example()) for k in (0, 500, 1000)], [963972, 305508, 40980])
 
+    def test_research(self):
+        self.assertEqual([quailribbon.research(observer, 380, 1, example()) for observer in (32, 40)], [58187, 96637])
+        full = [1_000_000] * 471
+        self.assertEqual([quailribbon.research(observer, 360, 1, full) for observer in (32, 40)], [77248855, 80965642])
+
     def test_light_as_at_555_017_nm_has_683_lumens_a_watt(self):
         samples = changed(changed(DARK, 175, 983_000), 176, 17_000)
         for reading in (quailribbon.photopic, quailribbon.scotopic, quailribbon.photopic_10):
             self.assertEqual(reading(380, 1, samples), 683_000)
         self.assertEqual(quailribbon.mesopic(500, 380, 1, samples), 683_000)
         self.assertEqual([quailribbon.xyz(observer, 380, 1, samples).y for observer in (2, 10)], [683_000] * 2)
+        self.assertEqual([quailribbon.research(observer, 380, 1, samples) for observer in (32, 40)], [683_000] * 2)
 
     def test_colour(self):
         self.assertEqual(quailribbon.xyz(2, 380, 1, example()), (198617, 40980, 1140066))
@@ -184,6 +190,11 @@ class Refusals(Case):
     def test_observer(self):
         self.assertRefused(6, quailribbon.xyz, 3, 380, 1, example())
         self.assertRefused(6, quailribbon.uv, 3, 380, 3, example())
+        for observer in (2, 10, 31, 41, -1, 2**32 + 32):
+            self.assertRefused(6, quailribbon.research, observer, 380, 3, example())
+        for observer in (32, 40):
+            for colour in (quailribbon.xyz, quailribbon.xy, quailribbon.uv, quailribbon.chart):
+                self.assertRefused(6, colour, observer, 380, 1, example())
         self.assertRefused(6, quailribbon.panel_xy, 0, 3, 360, 1, WHITE)
         self.assertRefused(6, quailribbon.panel_figures, 3, 3, 360, 1, WHITE)
 
@@ -534,7 +545,7 @@ class Package(Case):
 class Hints(Case):
     def test_everything_public_has_them(self):
         functions = [getattr(quailribbon, name) for name in quailribbon.__all__ if name.islower()]
-        self.assertEqual(len(functions), 17)
+        self.assertEqual(len(functions), 18)
         for function in functions:
             with self.subTest(function.__name__):
                 arguments = function.__code__.co_varnames[: function.__code__.co_argcount]

@@ -230,15 +230,20 @@ def uses_of(*kinds):
 
 
 def list_text(entries):
-    """A table's entries, ten a line, so that a line is ten nanometres."""
+    """A table's entries, ten a line, so that a line is ten nanometres; whole tens of nothing before or behind them at once."""
     tens = [entries[at : at + 10] for at in range(0, len(entries), 10)]
-    rows = [" ∷ ".join(str(entry) for entry in ten) for ten in tens]
-    return "    " + "\n    ∷ ".join(rows + ["[]"])
+    lit = [at for at, ten in enumerate(tens) if any(ten)]
+    begin, end = 10 * lit[0], min(10 * lit[-1] + 10, len(entries))
+    rows = [" ∷ ".join(str(entry) for entry in ten) for ten in tens[lit[0] : lit[-1] + 1]]
+    before = f"replicate {begin} 0 ++ " if begin else ""
+    behind = f"replicate {len(entries) - end} 0" if end < len(entries) else "[]"
+    return "    " + before + "\n    ∷ ".join([*rows, behind])
 
 
 def tables_text(curves, illuminants):
     lines = [f"-- The tables as the contracts read them, from 360 to 830 nm: {WRITTEN} from the source documents."]
-    lines += ["use mathlib.Core.List.{List, [], _∷_}", "use Prim.Native.Nat.{ℕ}", *uses_of(curves, illuminants)]
+    lines += ["use mathlib.Core.List.{List, [], _∷_, _++_}", "use Prim.Native.Nat.{ℕ}", "use lib.ListN.{replicate}"]
+    lines += uses_of(curves, illuminants)
     for says, name, tables in (
         ("the whole table of a curve, from 360 nm on", "table", curves),
         ("and of an illuminant", "powers", illuminants),

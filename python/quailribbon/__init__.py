@@ -60,6 +60,7 @@ __all__ = [
     "photopic_10",
     "read_record",
     "report",
+    "research",
     "scotopic",
     "uv",
     "write_record",
@@ -208,6 +209,11 @@ def photopic_10(start: SupportsIndex, step: SupportsIndex, samples: Row) -> int:
 def mesopic(k: SupportsIndex, start: SupportsIndex, step: SupportsIndex, samples: Row) -> int:
     """Mesopic illuminance in millilux, at k thousandths, from 0 (scotopic) to 1000 (photopic)."""
     return _ask(_c.mesopic, (thousandths(k), *grid(start, step)), samples).value
+
+
+def research(observer: SupportsIndex, start: SupportsIndex, step: SupportsIndex, samples: Row) -> int:
+    """Illuminance in millilux by a cone-fundamental curve, of 2° for observer 32 or of 10° for observer 40."""
+    return _seen_light(_c.research, observer, start, step, samples).value
 
 
 def xyz(observer: SupportsIndex, start: SupportsIndex, step: SupportsIndex, samples: Row) -> Xyz:

@@ -17,6 +17,13 @@ mod c {
             samples: *const u32,
             count: usize,
         ) -> Reading;
+        pub fn qr_research(
+            observer: u32,
+            start: u32,
+            step: u32,
+            samples: *const u32,
+            count: usize,
+        ) -> Reading;
         pub fn qr_xyz(
             observer: u32,
             start: u32,
@@ -126,6 +133,10 @@ pub fn photopic_10(start: u32, step: u32, samples: &[u32]) -> Reading {
 
 pub fn mesopic(k: u32, start: u32, step: u32, samples: &[u32]) -> Reading {
     unsafe { c::qr_mesopic(k, start, step, samples.as_ptr(), samples.len()) }
+}
+
+pub fn research(observer: u32, start: u32, step: u32, samples: &[u32]) -> Reading {
+    unsafe { c::qr_research(observer, start, step, samples.as_ptr(), samples.len()) }
 }
 
 pub fn xyz(observer: u32, start: u32, step: u32, samples: &[u32]) -> XyzAnswer {

@@ -11,7 +11,7 @@ mod record;
 mod refusal;
 mod report;
 
-pub use light::{chart, figures, mesopic, photopic, photopic_10, scotopic, uv, xy, xyz};
+pub use light::{chart, figures, mesopic, photopic, photopic_10, research, scotopic, uv, xy, xyz};
 pub use panel::{panel_chart, panel_figures, panel_uv, panel_xy, panel_xyz};
 pub use record::{read_record, write_record};
 pub use report::report;

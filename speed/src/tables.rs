@@ -7,8 +7,8 @@ pub const WAVELENGTHS: usize = (LAST - FIRST + 1) as usize;
 /// A whole number for each nanometre from 360 to 830: weights at 10^13 to one, illuminants at 10^5.
 pub type Table = [u64; WAVELENGTHS];
 
-/// The wavelength and the nine tables.
-const COLUMNS: usize = 10;
+/// The wavelength and the tables.
+const COLUMNS: usize = 12;
 
 const TEXT: &str = include_str!(concat!(env!("CARGO_MANIFEST_DIR"), "/../second/tables.txt"));
 
@@ -23,6 +23,8 @@ pub static Z10: Table = ALL[6];
 pub static V_PRIME: Table = ALL[7];
 pub static A: Table = ALL[8];
 pub static D65: Table = ALL[9];
+pub static V_F: Table = ALL[10];
+pub static V_F10: Table = ALL[11];
 
 /// The value of a curve at 555.017 nm, by straight line between 555 and 556, at 10^16 to one.
 pub fn at_reference(curve: &Table) -> u128 {
@@ -43,7 +45,7 @@ const fn read(text: &[u8]) -> [Table; COLUMNS] {
             }
             b' ' => column += 1,
             b'\n' => {
-                assert!(column == COLUMNS - 1, "a row of ten numbers");
+                assert!(column == COLUMNS - 1, "a number for each column");
                 assert!(
                     all[0][row] == FIRST as u64 + row as u64,
                     "the rows in order"

@@ -32,6 +32,7 @@ fn p1_all_zero() {
     assert_eq!(scotopic(380, 1, &dark).value, 0);
     assert_eq!(photopic_10(380, 1, &dark).value, 0);
     assert_eq!(mesopic(500, 380, 1, &dark).value, 0);
+    assert_eq!(research(32, 380, 1, &dark).value, 0);
     let answer = xyz(2, 380, 1, &dark);
     assert_eq!((answer.number, answer.x, answer.y, answer.z), (0, 0, 0, 0));
     assert_eq!(xy(2, 380, 1, &dark).number, 9);
@@ -77,6 +78,29 @@ fn light_as_at_555_017_has_683_lumens_a_watt() {
     }
     for observer in [2, 10] {
         assert_eq!(xyz(observer, 380, 1, &samples).y, 683_000);
+    }
+    for observer in [32, 40] {
+        assert_eq!(research(observer, 380, 1, &samples).value, 683_000);
+    }
+}
+
+#[test]
+fn research_figures() {
+    let both = |start, samples: &[u32]| [32, 40].map(|observer| research(observer, start, 1, samples).value);
+    assert_eq!(both(380, &light(&[(460, 1_000_000)])), [58187, 96637]);
+    assert_eq!(both(360, &[1_000_000; 471]), [77248855, 80965642]);
+    assert_eq!(both(380, &light(&[(389, 1_000_000)])), [0, 0]);
+    assert_eq!(both(380, &light(&[(390, 1_000_000)])), [283, 279]);
+    for observer in [0, 2, 10, 31, 33, 39, 41, u32::MAX] {
+        assert_eq!(research(observer, 381, 3, &[]).number, 6);
+    }
+    for observer in [32, 40] {
+        assert_eq!(research(observer, 381, 3, &[]).number, 1);
+        assert_eq!(xyz(observer, 380, 1, &light(&[])).number, 6);
+        assert_eq!(xy(observer, 380, 1, &light(&[])).number, 6);
+        assert_eq!(uv(observer, 380, 1, &light(&[])).number, 6);
+        assert_eq!(chart(observer, 380, 1, &light(&[])).number, 6);
+        assert_eq!(panel_xyz(observer, 1, 360, 1, &[0; 471]).number, 6);
     }
 }
 

@@ -2,6 +2,8 @@
 use crate::summed::sum;
 use exact::digits::Short;
 use tables::Curve;
+use tables::numbers::V_F_10_UNITS;
+use tables::numbers::V_F_UNITS;
 use tables::numbers::V_PRIME_UNITS;
 use tables::numbers::X_BAR_10_UNITS;
 use tables::numbers::X_BAR_UNITS;
@@ -9,6 +11,8 @@ use tables::numbers::Y_BAR_10_UNITS;
 use tables::numbers::Y_BAR_UNITS;
 use tables::numbers::Z_BAR_10_UNITS;
 use tables::numbers::Z_BAR_UNITS;
+use tables::numbers::v_f;
+use tables::numbers::v_f_10;
 use tables::numbers::v_prime;
 use tables::numbers::x_bar;
 use tables::numbers::x_bar_10;
@@ -37,5 +41,7 @@ pub fn by_curve(curve: Curve, in_two: bool, high: &[u64; 471], low: &[u64; 471])
         Curve::YBar10 => sum(&y_bar_10(), Y_BAR_10_UNITS, in_two, high, low),
         Curve::ZBar10 => sum(&z_bar_10(), Z_BAR_10_UNITS, in_two, high, low),
         Curve::VPrime => sum(&v_prime(), V_PRIME_UNITS, in_two, high, low),
+        Curve::VF => sum(&v_f(), V_F_UNITS, in_two, high, low),
+        Curve::VF10 => sum(&v_f_10(), V_F_10_UNITS, in_two, high, low),
     }
 }

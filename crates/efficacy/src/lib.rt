@@ -1,4 +1,5 @@
-// The efficacy of each curve as it is worked: 683 for all, over the value of V, V10 or V′ at 555.017 nm, since their peaks are 1.
+// The efficacy of each curve as it is worked: 683 for all, over the value of V, V10 or V′ at 555.017 nm, since their peaks are 1,
+// and over that of a cone-fundamental curve, which has no peak factor.
 use exact::digits::Short;
 use exact::digits::joined;
 use tables::Curve;
@@ -15,6 +16,10 @@ const V: u64 = 9999975639000000;
 const V_10: u64 = 9991212200000000;
 
 const V_PRIME: u64 = 4017348000000000;
+
+const V_F: u64 = 9994698474000000;
+
+const V_F_10: u64 = 9997803305000000;
 
 // s times the value that the curve's efficacy is divided by.
 pub fn divisor(curve: Curve, step: u32) -> Short
@@ -36,5 +41,7 @@ fn at_reference(curve: Curve) -> u64
         Curve::YBar10 => V_10,
         Curve::ZBar10 => V_10,
         Curve::VPrime => V_PRIME,
+        Curve::VF => V_F,
+        Curve::VF10 => V_F_10,
     }
 }

@@ -5,12 +5,12 @@ use Rattle.grid.specs.Said.{Said}
 use Rattle.answers.specs.Said.{saidReading, saidXyz, saidXy, saidUv}
 use Rattle.panel.specs.Panel.{panelXyzOf, panelXyOf, panelUvOf}
 use Rattle.panel.specs.Figures.{panelFiguresOf, saidPanelFigures}
-use Rattle.readings.specs.Readings.{photopicOf, scotopicOf, photopic10Of, mesopicOf, xyzOf, xyOf, uvOf}
+use Rattle.readings.specs.Readings.{photopicOf, scotopicOf, photopic10Of, researchOf, mesopicOf, xyzOf, xyOf, uvOf}
 
 -- a reading or a panel's colour, by its settings, start, step and samples
 pub data Asked : Type 0 where
   photopic scotopic photopic10 : ℕ → ℕ → List ℕ → Asked
-  mesopic : ℕ → ℕ → ℕ → List ℕ → Asked
+  research mesopic : ℕ → ℕ → ℕ → List ℕ → Asked
   xyz xy uv : ℕ → ℕ → ℕ → List ℕ → Asked
   panelXyz panelXy panelUv panelFigures : ℕ → ℕ → ℕ → ℕ → List ℕ → Asked
 
@@ -19,6 +19,7 @@ unfoldable pub answerOf : Asked → Said
 answerOf (photopic a s xs) = saidReading (photopicOf a s xs)
 answerOf (scotopic a s xs) = saidReading (scotopicOf a s xs)
 answerOf (photopic10 a s xs) = saidReading (photopic10Of a s xs)
+answerOf (research o a s xs) = saidReading (researchOf o a s xs)
 answerOf (mesopic k a s xs) = saidReading (mesopicOf k a s xs)
 answerOf (xyz o a s xs) = saidXyz (xyzOf o a s xs)
 answerOf (xy o a s xs) = saidXy (xyOf o a s xs)

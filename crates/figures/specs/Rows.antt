@@ -1,5 +1,5 @@
 -- The bench figures P1 to P10 with the rules' own numbers, the illuminances and X, Y, Z worked again with the reference at
--- 555.017 nm, u′ and v′ beside x and y, and some of the project's own. Refusals have their numbers here too, so that the table
+-- 555.017 nm, u′ and v′ beside x and y, research figures, and some of the project's own. Refusals have their numbers here too, so that the table
 -- holds the names to them.
 use mathlib.Core.List.{List, [], _∷_, _++_}
 use Prim.Native.Nat.{ℕ, _-_}
@@ -7,7 +7,7 @@ use lib.ListN.{replicate}
 use Rattle.mixing.specs.Mixture.{mix}
 use Rattle.grid.specs.Said.{Said, given, refusedWith}
 use Rattle.grid.specs.Check.{refusal}
-use Rattle.figures.specs.Asked.{Asked, photopic, scotopic, photopic10, mesopic, xyz, xy, uv, panelXyz, panelXy, panelUv, panelFigures}
+use Rattle.figures.specs.Asked.{Asked, photopic, scotopic, photopic10, research, mesopic, xyz, xy, uv, panelXyz, panelXy, panelUv, panelFigures}
 
 -- an input, and what it must give
 pub record Row : Type 0 where
@@ -62,6 +62,8 @@ rows =
     ∷ gives (xyz 2 380 1 (at460 1000000)) (198617 ∷ 40980 ∷ 1140066 ∷ [])
     ∷ gives (xy 2 380 1 (at460 1000000)) (14396 ∷ 2970 ∷ [])
     ∷ gives (uv 2 380 1 (at460 1000000)) (18766 ∷ 8712 ∷ [])
+    ∷ gives (research 32 380 1 (at460 1000000)) (58187 ∷ [])
+    ∷ gives (research 40 380 1 (at460 1000000)) (96637 ∷ [])
     -- P3: just above 1024.5, and just below
     ∷ gives (photopic 380 1 (at460 25000)) (1025 ∷ [])
     ∷ gives (photopic 380 1 (at460 24999)) (1024 ∷ [])
@@ -99,11 +101,18 @@ rows =
     ∷ gives (photopic10 380 1 (lone 401 173 189947)) (129429 ∷ [])
     ∷ gives (mesopic 500 380 1 (mix (at555 640885) (lone 401 49 31715))) (440877 ∷ [])
     ∷ gives (xyz 10 380 1 (lone 401 94 189947)) (18783 ∷ 27741 ∷ 141275 ∷ [])
-    -- our own: light as at 555.017, of which a watt has 683 lumens by V, V10 and V′
+    -- our own: research figures of exactly 3756.5 and 46785.5, and just below them
+    ∷ gives (research 32 380 10 (mix (lone 41 4 1363) (lone 41 5 15532))) (3757 ∷ [])
+    ∷ gives (research 32 380 10 (mix (lone 41 4 1363) (lone 41 5 15531))) (3756 ∷ [])
+    ∷ gives (research 40 380 10 (mix (lone 41 3 209644) (lone 41 31 554720))) (46786 ∷ [])
+    ∷ gives (research 40 380 10 (mix (lone 41 3 209644) (lone 41 31 554719))) (46785 ∷ [])
+    -- our own: light as at 555.017, of which a watt has 683 lumens by V, V10, V′ and the cone-fundamental curves
     ∷ gives (photopic 380 1 atTheReference) (683000 ∷ [])
     ∷ gives (scotopic 380 1 atTheReference) (683000 ∷ [])
     ∷ gives (photopic10 380 1 atTheReference) (683000 ∷ [])
     ∷ gives (mesopic 500 380 1 atTheReference) (683000 ∷ [])
+    ∷ gives (research 32 380 1 atTheReference) (683000 ∷ [])
+    ∷ gives (research 40 380 1 atTheReference) (683000 ∷ [])
     ∷ gives (xyz 2 380 1 atTheReference) (349920 ∷ 683000 ∷ 3922 ∷ [])
     ∷ gives (xyz 10 380 1 atTheReference) (421342 ∷ 683000 ∷ 741 ∷ [])
     -- our own: a lone 1 at 460, whose X and Y round to 0
@@ -118,6 +127,15 @@ rows =
     ∷ gives (uv 2 380 10 (lone 41 40 1000000)) (62337 ∷ 50650 ∷ [])
     ∷ gives (uv 2 380 1 (lone 401 151 1000000)) (5290 ∷ 58676 ∷ [])
     ∷ gives (uv 2 380 10 (lone 41 0 1000000)) (25708 ∷ 1677 ∷ [])
+    -- our own: the cone-fundamental curves feel no light below 390 nm, but that at 390 and at 830, and that carried to 830
+    ∷ gives (research 32 360 10 (replicate 3 1000000 ++ replicate 45 0)) (0 ∷ [])
+    ∷ gives (research 40 360 10 (replicate 3 1000000 ++ replicate 45 0)) (0 ∷ [])
+    ∷ gives (research 32 360 10 (lone 48 3 1000000)) (3042 ∷ [])
+    ∷ gives (research 40 360 10 (lone 48 3 1000000)) (3078 ∷ [])
+    ∷ gives (research 32 360 10 (lone 48 47 1000000)) (3 ∷ [])
+    ∷ gives (research 40 360 10 (lone 48 47 1000000)) (3 ∷ [])
+    ∷ gives (research 32 380 10 (lone 41 40 1000000)) (219 ∷ [])
+    ∷ gives (research 40 380 10 (lone 41 40 1000000)) (197 ∷ [])
     -- our own: a lone 1 at 555 at step 5, whose line would be lost if T were divided by s
     ∷ gives (photopic 380 5 (lone 81 35 1)) (3 ∷ [])
     -- our own: 1,000,000 at 700, where z̄ is empty
@@ -155,6 +173,8 @@ rows =
     ∷ gives (mesopic 0 360 1 fullLight) (165033523 ∷ [])
     ∷ gives (mesopic 500 360 1 fullLight) (99364891 ∷ [])
     ∷ gives (mesopic 1000 360 1 fullLight) (72983452 ∷ [])
+    ∷ gives (research 32 360 1 fullLight) (77248855 ∷ [])
+    ∷ gives (research 40 360 1 fullLight) (80965642 ∷ [])
     ∷ gives (xyz 2 360 1 fullLight) (72989293 ∷ 72983452 ∷ 73007585 ∷ [])
     ∷ gives (xyz 10 360 1 fullLight) (79741014 ∷ 79750145 ∷ 79758419 ∷ [])
     ∷ gives (xyz 2 380 10 (replicate 41 1000000)) (72989293 ∷ 72983452 ∷ 73007585 ∷ [])
@@ -192,6 +212,26 @@ rows =
     ∷ refuses (panelUv 2 1 380 1 (lone 399 7 10001)) 3 0
     ∷ refuses (panelUv 2 1 300 10 (lone 54 3 10001)) 8 3
     ∷ refuses (panelUv 2 1 300 10 (lone 54 3 10000)) 9 0
+    -- our own: a research figure of a number that has none, and colour of one that has one
+    ∷ refuses (research 2 380 10 (replicate 41 1000000)) 6 0
+    ∷ refuses (research 10 380 10 (replicate 41 1000000)) 6 0
+    ∷ refuses (research 31 380 10 (replicate 41 1000000)) 6 0
+    ∷ refuses (research 41 380 10 (replicate 41 1000000)) 6 0
+    ∷ refuses (xyz 32 380 10 (replicate 41 1000000)) 6 0
+    ∷ refuses (xyz 40 380 10 (replicate 41 1000000)) 6 0
+    ∷ refuses (xy 32 380 10 (replicate 41 1000000)) 6 0
+    ∷ refuses (xy 40 380 10 (replicate 41 1000000)) 6 0
+    ∷ refuses (uv 32 380 10 (replicate 41 1000000)) 6 0
+    ∷ refuses (uv 40 380 10 (replicate 41 1000000)) 6 0
+    ∷ refuses (panelXyz 32 2 380 10 (replicate 41 10000)) 6 0
+    ∷ refuses (panelXy 40 2 380 10 (replicate 41 10000)) 6 0
+    -- our own: the refusals of a research figure, each before the next, and a dark one's zero
+    ∷ refuses (research 33 381 3 (lone 399 7 1000001)) 6 0
+    ∷ refuses (research 32 381 3 (lone 399 7 1000001)) 1 0
+    ∷ refuses (research 32 381 1 (lone 399 7 1000001)) 2 0
+    ∷ refuses (research 32 380 1 (lone 399 7 1000001)) 3 0
+    ∷ refuses (research 40 300 10 (lone 54 3 1000001)) 4 3
+    ∷ gives (research 40 300 10 (lone 54 3 1000000)) (0 ∷ [])
     -- our own: a panel's figures in one answer: white, dark and refused
     ∷ gives (panelFigures 2 2 360 1 (replicate 471 10000)) (95047 ∷ 100000 ∷ 108883 ∷ 0 ∷ 31273 ∷ 32902 ∷ [])
     ∷ gives (panelFigures 2 1 360 1 (replicate 471 0)) (0 ∷ 0 ∷ 0 ∷ 9 ∷ 0 ∷ 0 ∷ [])

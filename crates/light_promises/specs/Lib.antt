@@ -1,4 +1,5 @@
 -- What is promised of lights and of panels.
 pub mod Lights
 pub mod Range
+pub mod Research
 pub mod Panels

@@ -11,13 +11,13 @@ use Rattle.grid.specs.Check.{Within, refusal, isObserver, gridCheck, lightCheck
 use Rattle.mixing.specs.Mixture.{mix, Below}
 use Rattle.mixing.specs.Promises.{Between, Differ}
 use Rattle.tables.specs.declared.Curve.{Curve}
-use Rattle.tables.specs.declared.Curve.the-variants.{YBar, YBar10, VPrime}
+use Rattle.tables.specs.declared.Curve.the-variants.{YBar, YBar10, VPrime, VF, VF10}
 use Rattle.tables.specs.Curves.{weightOf}
 use Rattle.spectrum.specs.Line.{T}
 use Rattle.grid.specs.Said.{Said, value, given, refusedWith, RefusedAs}
 use Rattle.answers.specs.Said.{saidReading, saidXyz, saidXy, saidUv, saidChart}
 use Rattle.curves.specs.Observer.{curvesOf}
-use Rattle.readings.specs.Readings.{photopicOf, scotopicOf, photopic10Of, mesopicOf, xyzOf, xyOf, uvOf, chartOf, figuresOf}
+use Rattle.readings.specs.Readings.{photopicOf, scotopicOf, photopic10Of, researchOf, mesopicOf, xyzOf, xyOf, uvOf, chartOf, figuresOf}
 use Rattle.readings.specs.Figures.{saidFigures}
 
 -- an answer by start, step and samples, as the rules' number, place and values
@@ -66,6 +66,8 @@ pub record Mixing : Type 0 where
   pub photopic : OneUnit (λ a s xs. saidReading (photopicOf a s xs))
   pub scotopic : OneUnit (λ a s xs. saidReading (scotopicOf a s xs))
   pub photopic-10 : OneUnit (λ a s xs. saidReading (photopic10Of a s xs))
+  pub research-32 : OneUnit (λ a s xs. saidReading (researchOf 32 a s xs))
+  pub research-40 : OneUnit (λ a s xs. saidReading (researchOf 40 a s xs))
   pub mesopic : (k : ℕ) → k ≤ 1000 → OneUnit (λ a s xs. saidReading (mesopicOf k a s xs))
   pub xyz : (o : ℕ) → isObserver o ≡ true → OneUnit (λ a s xs. saidXyz (xyzOf o a s xs))
   pub between : (o : ℕ) → isObserver o ≡ true → BothLit (λ a s xs. saidXy (xyOf o a s xs))
@@ -78,6 +80,8 @@ pub record Order : Type 0 where
   pub photopic : InOrder (λ a s xs. saidReading (photopicOf a s xs))
   pub scotopic : InOrder (λ a s xs. saidReading (scotopicOf a s xs))
   pub photopic-10 : InOrder (λ a s xs. saidReading (photopic10Of a s xs))
+  pub research-32 : InOrder (λ a s xs. saidReading (researchOf 32 a s xs))
+  pub research-40 : InOrder (λ a s xs. saidReading (researchOf 40 a s xs))
   pub mesopic : (k : ℕ) → k ≤ 1000 → InOrder (λ a s xs. saidReading (mesopicOf k a s xs))
   pub xyz : (o : ℕ) → isObserver o ≡ true → InOrder (λ a s xs. saidXyz (xyzOf o a s xs))
 
@@ -112,6 +116,8 @@ pub record Darkness : Type 0 where
   pub scotopic : (a s : ℕ) (xs : List ℕ) → lightCheck a s xs ≡ Fine → Unlit VPrime a s xs → saidReading (scotopicOf a s xs) ≡ nought
   pub photopic-10 :
       (a s : ℕ) (xs : List ℕ) → lightCheck a s xs ≡ Fine → Unlit YBar10 a s xs → saidReading (photopic10Of a s xs) ≡ nought
+  pub research-32 : (a s : ℕ) (xs : List ℕ) → lightCheck a s xs ≡ Fine → Unlit VF a s xs → saidReading (researchOf 32 a s xs) ≡ nought
+  pub research-40 : (a s : ℕ) (xs : List ℕ) → lightCheck a s xs ≡ Fine → Unlit VF10 a s xs → saidReading (researchOf 40 a s xs) ≡ nought
   pub mesopic :
       (k a s : ℕ) (xs : List ℕ) → k ≤ 1000 → lightCheck a s xs ≡ Fine → Unlit YBar a s xs → Unlit VPrime a s xs →
       saidReading (mesopicOf k a s xs) ≡ nought

@@ -10,7 +10,7 @@ use Rattle.grid.specs.Said.{Said, value, given}
 use Rattle.mixing.specs.Sum.{total}
 use Rattle.spectrum.specs.Line.{W}
 use Rattle.answers.specs.Said.{saidReading, saidXyz, saidXy, saidUv, saidChart}
-use Rattle.readings.specs.Readings.{photopicOf, scotopicOf, photopic10Of, mesopicMillilux, mesopicOf, xyzOf, xyOf, uvOf, chartOf, figuresOf}
+use Rattle.readings.specs.Readings.{photopicOf, scotopicOf, photopic10Of, researchOf, mesopicMillilux, mesopicOf, xyzOf, xyOf, uvOf, chartOf, figuresOf}
 use Rattle.readings.specs.Figures.{saidFigures}
 use Rattle.light_promises.specs.Lights.{Answer, IsDark}
 
@@ -44,6 +44,8 @@ pub record Range : Type 0 where
   pub photopic : Greatest (λ a s xs. saidReading (photopicOf a s xs)) (72983452 ∷ [])
   pub scotopic : Greatest (λ a s xs. saidReading (scotopicOf a s xs)) (165033523 ∷ [])
   pub photopic-10 : Greatest (λ a s xs. saidReading (photopic10Of a s xs)) (79750145 ∷ [])
+  pub research-32 : Greatest (λ a s xs. saidReading (researchOf 32 a s xs)) (77248855 ∷ [])
+  pub research-40 : Greatest (λ a s xs. saidReading (researchOf 40 a s xs)) (80965642 ∷ [])
   pub mesopic : (k : ℕ) → k ≤ 1000 → Greatest (λ a s xs. saidReading (mesopicOf k a s xs)) (mesopicGreatest k ∷ [])
   -- the most of all is that at k = 0
   pub mesopic-any : (k : ℕ) → k ≤ 1000 → mesopicGreatest k ≤ mesopicGreatest 0

@@ -1,6 +1,7 @@
 // What is promised of a light's readings: their range, how mixed light behaves, the order of light, darkness, the refusals of
-// u′, v′ and the chart, and the mesopic reading by day and by night.
+// u′, v′ and the chart and of the research figures, and the mesopic reading by day and by night.
 ghost use Rattle.light_promises.specs.Range.{Range};
+ghost use Rattle.light_promises.specs.Research.{Research};
 ghost use Rattle.light_promises.specs.Lights.{Mixing, Order, Darkness, ColourRefusals, MesopicEnds};
 
 pub fn promise_range()
@@ -21,6 +22,10 @@ pub fn promise_darkness()
 
 pub fn promise_colour_refusals()
     ensures { λ _. ⌜ ColourRefusals ⌝ }
+{}
+
+pub fn promise_research()
+    ensures { λ _. ⌜ Research ⌝ }
 {}
 
 pub fn promise_mesopic_ends()

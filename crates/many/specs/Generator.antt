@@ -13,9 +13,9 @@ stepFrom d = getD (1 ∷ 2 ∷ 5 ∷ 10 ∷ 1 ∷ 2 ∷ 5 ∷ 10 ∷ 1 ∷ 2 ∷
 abbrev pub startFrom : ℕ → ℕ
 startFrom d = cond (eqb (d % 13) 0) (getD (299 ∷ 381 ∷ 0 ∷ 4294967295 ∷ []) (d / 13 % 4) 0) (300 + d % 81)
 
--- the entry at d % 8 of 2, 10, 2, 10, 2, 10, 3, 0
+-- the entry at d % 16 of 2, 10, 2, 10, 2, 10, 2, 10, 32, 40, 32, 40, 32, 40, 3, 0
 abbrev pub observerFrom : ℕ → ℕ
-observerFrom d = getD (2 ∷ 10 ∷ 2 ∷ 10 ∷ 2 ∷ 10 ∷ 3 ∷ 0 ∷ []) (d % 8) 0
+observerFrom d = getD (2 ∷ 10 ∷ 2 ∷ 10 ∷ 2 ∷ 10 ∷ 2 ∷ 10 ∷ 32 ∷ 40 ∷ 32 ∷ 40 ∷ 32 ∷ 40 ∷ 3 ∷ 0 ∷ []) (d % 16) 0
 
 -- the entry at d % 8 of 1, 2, 1, 2, 1, 2, 0, 3
 abbrev pub illuminantFrom : ℕ → ℕ

@@ -66,8 +66,8 @@ fn fitting_count(last: u64, start: u64, step: u64) -> usize
 pub fn observer_from(d: u64) -> u32
     ensures { λ r. ⌜ r ≡ observerFrom d ⌝ }
 {
-    let observers: [u32; 8] = [2, 10, 2, 10, 2, 10, 3, 0];
-    observers[(d % 8) as usize]
+    let observers: [u32; 16] = [2, 10, 2, 10, 2, 10, 2, 10, 32, 40, 32, 40, 32, 40, 3, 0];
+    observers[(d % 16) as usize]
 }
 
 pub fn illuminant_from(d: u64) -> u32

@@ -66,17 +66,18 @@ fn answers(
 )
     requires { ⌜ d < 2147483647 ⌝ }
 {
-    light(k, start, step, samples);
+    light(k, observer, start, step, samples);
     colour(observer, start, step, samples);
     panel(observer, illuminant, start, step, reflectances);
     records::record(start, step, samples, d);
 }
 
-fn light(k: u32, start: u32, step: u32, samples: &[u32]) {
+fn light(k: u32, observer: u32, start: u32, step: u32, samples: &[u32]) {
     shown::reading(readings::photopic(start, step, samples));
     shown::reading(readings::scotopic(start, step, samples));
     shown::reading(readings::photopic_10(start, step, samples));
     shown::reading(readings::mesopic(k, start, step, samples));
+    shown::reading(readings::research(observer, start, step, samples));
 }
 
 fn colour(observer: u32, start: u32, step: u32, samples: &[u32]) {

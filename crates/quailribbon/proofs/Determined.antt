@@ -7,6 +7,7 @@ use Rattle.readings.proofs.photopic.Reads as photopic
 use Rattle.readings.proofs.scotopic.Reads as scotopic
 use Rattle.readings.proofs.photopic_10.Reads as photopic-10
 use Rattle.readings.proofs.mesopic.Reads as mesopic
+use Rattle.readings.proofs.research.Reads as research
 use Rattle.readings.proofs.colour.xyz.Reads as xyz
 use Rattle.readings.proofs.colour.xy.Reads as xy
 use Rattle.readings.proofs.colour.uv.Reads as uv
@@ -24,6 +25,7 @@ use Rattle.quailribbon.proofs.lights.qr_photopic.Reads as qr-photopic
 use Rattle.quailribbon.proofs.lights.qr_scotopic.Reads as qr-scotopic
 use Rattle.quailribbon.proofs.lights.qr_photopic_10.Reads as qr-photopic-10
 use Rattle.quailribbon.proofs.lights.qr_mesopic.Reads as qr-mesopic
+use Rattle.quailribbon.proofs.lights.qr_research.Reads as qr-research
 use Rattle.quailribbon.proofs.lights.qr_xyz.Reads as qr-xyz
 use Rattle.quailribbon.proofs.lights.qr_xy.Reads as qr-xy
 use Rattle.quailribbon.proofs.lights.qr_uv.Reads as qr-uv
@@ -66,6 +68,9 @@ one-photopic-10 k a r q e f p s = same p s
 
 one-mesopic : OneResult mesopic.Post
 one-mesopic k a r q e f p s = same p s
+
+one-research : OneResult research.Post
+one-research k a r q e f p s = same p s
 
 one-xyz : OneResult xyz.Post
 one-xyz k a r q e f p s = same p s
@@ -134,6 +139,9 @@ one-qr-photopic-10 k a r q e f p s = same p s
 
 one-qr-mesopic : OneResult qr-mesopic.Post
 one-qr-mesopic k a r q e f p s = same p s
+
+one-qr-research : OneResult qr-research.Post
+one-qr-research k a r q e f p s = same p s
 
 one-qr-xyz : OneResult qr-xyz.Post
 one-qr-xyz k a r q e f p s = same p s

@@ -7,6 +7,8 @@ use Rattle.tables.proofs.numbers.x_bar_10.Reads as x-bar-10
 use Rattle.tables.proofs.numbers.y_bar_10.Reads as y-bar-10
 use Rattle.tables.proofs.numbers.z_bar_10.Reads as z-bar-10
 use Rattle.tables.proofs.numbers.v_prime.Reads as v-prime
+use Rattle.tables.proofs.numbers.v_f.Reads as v-f
+use Rattle.tables.proofs.numbers.v_f_10.Reads as v-f-10
 
 one-x-bar : OneResult x-bar.Post
 one-x-bar k a r q e f p s = same p s
@@ -28,3 +30,9 @@ one-z-bar-10 k a r q e f p s = same p s
 
 one-v-prime : OneResult v-prime.Post
 one-v-prime k a r q e f p s = same p s
+
+one-v-f : OneResult v-f.Post
+one-v-f k a r q e f p s = same p s
+
+one-v-f-10 : OneResult v-f-10.Post
+one-v-f-10 k a r q e f p s = same p s

@@ -13,7 +13,7 @@ use crate::flatten::flat_xy;
 use crate::flatten::flat_xyz;
 ghost use mathlib.Core.Path.{_≡_};
 ghost use Rattle.answers.specs.Said.{saidReading, saidXyz, saidXy, saidUv, saidChart};
-ghost use Rattle.readings.specs.Readings.{photopicOf, scotopicOf, photopic10Of, mesopicOf, xyzOf, xyOf, uvOf, chartOf, figuresOf};
+ghost use Rattle.readings.specs.Readings.{photopicOf, scotopicOf, photopic10Of, mesopicOf, researchOf, xyzOf, xyOf, uvOf, chartOf, figuresOf};
 ghost use Rattle.readings.specs.Figures.{saidFigures};
 ghost use Rattle.quailribbon.specs.Flat.{flatReading, flatXyz, flatXy, flatUv, flatChart, flatFigures};
 
@@ -43,6 +43,13 @@ pub extern "C" fn qr_mesopic(k: u32, start: u32, step: u32, samples: &[u32]) -> 
     ensures { λ r. ⌜ r ≡ flatReading (saidReading (mesopicOf k start step (now (samples .entry)))) ⌝ }
 {
     flat_reading(readings::mesopic(k, start, step, samples))
+}
+
+#[no_mangle]
+pub extern "C" fn qr_research(observer: u32, start: u32, step: u32, samples: &[u32]) -> QrReading
+    ensures { λ r. ⌜ r ≡ flatReading (saidReading (researchOf observer start step (now (samples .entry)))) ⌝ }
+{
+    flat_reading(readings::research(observer, start, step, samples))
 }
 
 #[no_mangle]

@@ -1,13 +1,14 @@
 -- Every reading of a light, as the rules' table has it.
+use mathlib.Core.Bool.{cond}
 use mathlib.Core.List.{List}
 use Prim.Native.Nat.{ℕ, _+_, _*_, _-_, _^_}
-use lib.Dec.{leb}
+use lib.Dec.{leb, eqb}
 use Rattle.grid.specs.Refusals.{MESOPIC, OBSERVER}
 use Rattle.grid.specs.declared.Check.{Check}
-use Rattle.grid.specs.Check.{unless, require, isObserver, lightCheck}
+use Rattle.grid.specs.Check.{refusal, unless, require, isObserver, lightCheck}
 use Rattle.mixing.specs.Nearest.{nearest}
 use Rattle.tables.specs.declared.Curve.{Curve}
-use Rattle.tables.specs.declared.Curve.the-variants.{YBar, YBar10, VPrime}
+use Rattle.tables.specs.declared.Curve.the-variants.{YBar, YBar10, VPrime, VF, VF10}
 use Rattle.tables.specs.Curves.{weightOf}
 use Rattle.spectrum.specs.Line.{W}
 use Rattle.answers.specs.declared.Reading.{Reading}
@@ -45,6 +46,11 @@ scotopicOf a s xs = illuminanceOf VPrime a s xs
 -- 10° photopic: by V10, which is ȳ10
 abbrev pub photopic10Of : ℕ → ℕ → List ℕ → Reading
 photopic10Of a s xs = illuminanceOf YBar10 a s xs
+
+-- research: 32 is by the cone-fundamental curve of 2° and 40 by that of 10°; any other number is OBSERVER, before the light's own
+abbrev pub researchOf : ℕ → ℕ → ℕ → List ℕ → Reading
+researchOf o a s xs =
+    cond (eqb o 32) (illuminanceOf VF a s xs) (cond (eqb o 40) (illuminanceOf VF10 a s xs) (Reading.Refused (refusal OBSERVER 0)))
 
 -- MESOPIC: k above 1000
 abbrev pub mesopicCheck : ℕ → ℕ → ℕ → List ℕ → Check

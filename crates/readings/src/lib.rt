@@ -14,13 +14,14 @@ use grid::Check;
 use grid::Refusal;
 use grid::check_light;
 use grid::refusals::MESOPIC;
+use grid::refusals::OBSERVER;
 use spectrum::line::begin_at_360;
 use tables::Curve;
 ghost use mathlib.Core.Path.{_≡_};
 ghost use Prim.Native.Nat.{_≤_};
 ghost use Rattle.grid.specs.declared.Check.the-variants.{Fine};
 ghost use Rattle.grid.specs.Check.{lightCheck};
-ghost use Rattle.readings.specs.Readings.{illuminanceOf, photopicOf, scotopicOf, photopic10Of, mesopicOf, mesopicMillilux};
+ghost use Rattle.readings.specs.Readings.{illuminanceOf, photopicOf, scotopicOf, photopic10Of, researchOf, mesopicOf, mesopicMillilux};
 
 // Photopic illuminance in millilux.
 pub fn photopic(start: u32, step: u32, samples: &[u32]) -> Reading
@@ -41,6 +42,20 @@ pub fn photopic_10(start: u32, step: u32, samples: &[u32]) -> Reading
     ensures { λ r. ⌜ r ≡ photopic10Of start step (now (samples .entry)) ⌝ }
 {
     illuminance(Curve::YBar10, start, step, samples)
+}
+
+// Illuminance in millilux by a cone-fundamental curve, of 2° for the number 32 and of 10° for 40.
+pub fn research(observer: u32, start: u32, step: u32, samples: &[u32]) -> Reading
+    ensures { λ r. ⌜ r ≡ researchOf observer start step (now (samples .entry)) ⌝ }
+{
+    match observer {
+        32 => illuminance(Curve::VF, start, step, samples),
+        40 => illuminance(Curve::VF10, start, step, samples),
+        _ => Reading::Refused(Refusal {
+            number: OBSERVER,
+            place: 0,
+        }),
+    }
 }
 
 fn illuminance(curve: Curve, start: u32, step: u32, samples: &[u32]) -> Reading

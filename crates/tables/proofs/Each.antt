@@ -8,7 +8,7 @@ use lib.Dec.{leb}
 use lib.ListN.{getD}
 use Rattle.tables.specs.Columns.{curves}
 use Rattle.tables.specs.declared.Curve.{Curve}
-use Rattle.tables.specs.declared.Curve.the-variants.{XBar, YBar, ZBar, XBar10, YBar10, ZBar10, VPrime}
+use Rattle.tables.specs.declared.Curve.the-variants.{XBar, YBar, ZBar, XBar10, YBar10, ZBar10, VPrime, VF, VF10}
 
 pub each : {A : Type 0} (f g : Curve → A) → map f curves ≡ map g curves → (c : Curve) → f c ≡ g c
 each {A} f g e = go
@@ -24,6 +24,8 @@ each {A} f g e = go
     go YBar10 = at 4
     go ZBar10 = at 5
     go VPrime = at 6
+    go VF = at 7
+    go VF10 = at 8
 
 -- so is a bound that no curve's number passes, or falls short of
 pub each-most : (f : Curve → ℕ) (most : ℕ) → map (λ c. leb (f c) most) curves ≡ map (λ c. true) curves → (c : Curve) → f c ≤ most

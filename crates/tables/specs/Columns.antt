@@ -3,14 +3,14 @@ use mathlib.Core.List.{List, [], _∷_}
 use Prim.Native.Nat.{ℕ}
 use Rattle.tables.specs.Units.{stretch, stretches}
 use Rattle.tables.specs.declared.Curve.{Curve}
-use Rattle.tables.specs.declared.Curve.the-variants.{XBar, YBar, ZBar, XBar10, YBar10, ZBar10, VPrime}
+use Rattle.tables.specs.declared.Curve.the-variants.{XBar, YBar, ZBar, XBar10, YBar10, ZBar10, VPrime, VF, VF10}
 use Rattle.tables.specs.declared.Illuminant.{Illuminant}
 use Rattle.tables.specs.declared.Illuminant.the-variants.{A, D65}
 use Rattle.tables.specs.declared.units.Units.{Units}
 
 -- every curve
 abbrev pub curves : List Curve
-curves = XBar ∷ YBar ∷ ZBar ∷ XBar10 ∷ YBar10 ∷ ZBar10 ∷ VPrime ∷ []
+curves = XBar ∷ YBar ∷ ZBar ∷ XBar10 ∷ YBar10 ∷ ZBar10 ∷ VPrime ∷ VF ∷ VF10 ∷ []
 
 -- what the entries of a curve add up to
 abbrev pub tableSum : Curve → ℕ
@@ -21,6 +21,8 @@ tableSum XBar10 = 1166485195089080
 tableSum YBar10 = 1166618771023120
 tableSum ZBar10 = 1166739805146470
 tableSum VPrime = 970713165740000
+tableSum VF = 1130423145723374
+tableSum VF10 = 1185180915321789
 
 -- and the largest of them
 abbrev pub tableTop : Curve → ℕ
@@ -31,6 +33,8 @@ tableTop XBar10 = 11343000000000
 tableTop YBar10 = 10000000000000
 tableTop ZBar10 = 20273000000000
 tableTop VPrime = 10000000000000
+tableTop VF = 9999930000000
+tableTop VF10 = 9999440000000
 
 -- the same of an illuminant
 abbrev pub powersSum : Illuminant → ℕ
@@ -51,6 +55,8 @@ litSum A XBar10 = 12647358174535456016600
 litSum A YBar10 = 11379260143253935908460
 litSum A ZBar10 = 4005493162587449059740
 litSum A VPrime = 6121773552252095400000
+litSum A VF = 11362681019482532806100
+litSum A VF10 = 11484501668769205049600
 litSum D65 XBar = 10043700015367632284300
 litSum D65 YBar = 10567081666988122222240
 litSum D65 ZBar = 11505742178858795582400
@@ -58,6 +64,8 @@ litSum D65 XBar10 = 11017375735781362489200
 litSum D65 YBar10 = 11620348647650694114000
 litSum D65 ZBar10 = 12469176716130656982100
 litSum D65 VPrime = 10462969390358220200000
+litSum D65 VF = 11170759465880331282450
+litSum D65 VF10 = 11819363753161816257940
 
 -- the units in which the code counts a curve's entries: x̄ below place 190, which is 550 nm, in thousands
 abbrev pub units : Curve → Units
@@ -68,3 +76,5 @@ units XBar10 = stretches (stretch 33 10) (stretch 410 10000) (stretch 471 1) 1
 units YBar10 = stretches (stretch 45 10) (stretch 405 10000) (stretch 471 1) 1
 units ZBar10 = stretches (stretch 27 10) (stretch 471 10000) (stretch 471 1) 1
 units VPrime = stretches (stretch 404 10000) (stretch 471 1) (stretch 471 1) 1
+units VF = stretches (stretch 146 1000) (stretch 360 10000) (stretch 464 10) 1
+units VF10 = stretches (stretch 137 1000) (stretch 358 10000) (stretch 463 10) 1

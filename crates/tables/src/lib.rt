@@ -3,7 +3,7 @@ pub mod numbers;
 pub mod promises;
 pub mod units;
 
-// What light is weighed by: V is ȳ, and V10 is ȳ10.
+// What light is weighed by: V is ȳ, and V10 is ȳ10. VF and VF10 are the cone-fundamental curves of 2° and 10°.
 pub enum Curve {
     XBar,
     YBar,
@@ -12,6 +12,8 @@ pub enum Curve {
     YBar10,
     ZBar10,
     VPrime,
+    VF,
+    VF10,
 }
 
 // What a panel is seen under.

@@ -10,20 +10,23 @@ pub struct Fraction {
     pub denominator: u128,
 }
 
-/// One of a light's readings, with this observer or this k.
-pub fn of_light(random: &mut Random, grid: &Grid, observer: u32, k: u32) -> Fraction {
+/// One of a light's readings, with one of these observers, the second of them of a research figure, or this k.
+pub fn of_light(random: &mut Random, grid: &Grid, observers: [u32; 2], k: u32) -> Fraction {
+    let [observer, cone_observer] = observers;
     let k = u128::from(k);
     let functions = match observer {
         2 => [&tables::X, &tables::Y, &tables::Z],
         _ => [&tables::X10, &tables::Y10, &tables::Z10],
     };
     let (y, scotopic) = (&tables::Y, &tables::V_PRIME);
-    match random.below(5) {
-        0 => Fraction {
-            adds: each(grid, |row| 683 * at(scotopic, row)),
-            denominator: at_reference(scotopic),
-        },
-        1 => Fraction {
+    let cones = match cone_observer {
+        32 => &tables::V_F,
+        _ => &tables::V_F10,
+    };
+    match random.below(6) {
+        0 => illuminance(grid, scotopic),
+        1 => illuminance(grid, cones),
+        2 => Fraction {
             adds: each(grid, |row| {
                 683 * (k * at(y, row) + (1000 - k) * at(scotopic, row))
             }),
@@ -36,6 +39,13 @@ pub fn of_light(random: &mut Random, grid: &Grid, observer: u32, k: u32) -> Frac
                 denominator: at_reference(functions[1]),
             }
         }
+    }
+}
+
+fn illuminance(grid: &Grid, curve: &Table) -> Fraction {
+    Fraction {
+        adds: each(grid, |row| 683 * at(curve, row)),
+        denominator: at_reference(curve),
     }
 }
 

@@ -9,6 +9,8 @@ use super::{fraction, halves, near};
 pub struct Light {
     pub k: u32,
     pub observer: u32,
+    /// The observer of the research figure.
+    pub cone_observer: u32,
     pub start: u32,
     pub step: u32,
     pub samples: Vec<u32>,
@@ -44,6 +46,7 @@ impl Light {
         Light {
             k: turn as u32 % 1001,
             observer: 2,
+            cone_observer: 32,
             start: 300,
             step: 1,
             samples: rows::longest(),
@@ -61,7 +64,7 @@ impl Light {
 
     /// Half of them are aimed at the rounding of some reading.
     fn good(random: &mut Random) -> Self {
-        let observer = random.pick(&[2, 10]);
+        let (observer, cone_observer) = (random.pick(&[2, 10]), random.pick(&[32, 40]));
         let k = match random.below(2) {
             0 => random.pick(&[0, 1, 100, 250, 500, 750, 999, 1000]),
             _ => random.within(0..=1000),
@@ -73,12 +76,12 @@ impl Light {
         };
         let aimed = match aim {
             0 => {
-                let fraction = fraction::of_light(random, &grid, observer, k);
+                let fraction = fraction::of_light(random, &grid, [observer, cone_observer], k);
                 halves::reading(random, &fraction)
             }
             1 => halves::coordinate(random, &grid, observer),
             2 => {
-                let fraction = fraction::of_light(random, &grid, observer, k);
+                let fraction = fraction::of_light(random, &grid, [observer, cone_observer], k);
                 Some(near::row(random, &fraction, LARGEST_SAMPLE))
             }
             _ => None,
@@ -87,6 +90,7 @@ impl Light {
         Light {
             k,
             observer,
+            cone_observer,
             start: grid.start,
             step: grid.step,
             room: record_length(samples.len()) + random.pick(&[0, 0, 0, 1, 2, 100]),
@@ -106,7 +110,10 @@ impl Light {
             Fault::Step => self.step = faulty_step(random),
             Fault::Start => self.start = faulty_start(random),
             Fault::Mesopic => self.k = random.pick(&[1001, 1002, 65_536, u32::MAX]),
-            Fault::Observer => self.observer = random.pick(&[0, 1, 3, 9, 11, 258, u32::MAX]),
+            Fault::Observer => {
+                self.observer = random.pick(&[0, 1, 3, 9, 11, 32, 40, 258, u32::MAX]);
+                self.cone_observer = random.pick(&[0, 2, 10, 31, 33, 39, 41, 288, u32::MAX]);
+            }
         }
     }
 }

@@ -2,9 +2,9 @@
 
 use super::flat::{chart_answer, reading, uv_answer, xy_answer, xyz_answer};
 use super::line::{functions, line, nearest, uv_coordinates, weigh, xy_coordinates, xy_or_dark};
-use super::refusal::{check_grid, check_samples, Refusal, MESOPIC};
+use super::refusal::{check_grid, check_samples, Refusal, MESOPIC, OBSERVER};
 use crate::answers::{ChartAnswer, FiguresAnswer, Reading, UvAnswer, XyAnswer, XyzAnswer};
-use crate::tables::{at_reference, Table, V_PRIME, Y, Y10};
+use crate::tables::{at_reference, Table, V_F, V_F10, V_PRIME, Y, Y10};
 
 pub fn photopic(start: u32, step: u32, samples: &[u32]) -> Reading {
     reading(illuminance(&Y, start, step, samples))
@@ -20,6 +20,10 @@ pub fn photopic_10(start: u32, step: u32, samples: &[u32]) -> Reading {
 
 pub fn mesopic(k: u32, start: u32, step: u32, samples: &[u32]) -> Reading {
     reading(mixed(k, start, step, samples))
+}
+
+pub fn research(observer: u32, start: u32, step: u32, samples: &[u32]) -> Reading {
+    reading(cone_curve(observer).and_then(|curve| illuminance(curve, start, step, samples)))
 }
 
 pub fn xyz(observer: u32, start: u32, step: u32, samples: &[u32]) -> XyzAnswer {
@@ -76,10 +80,19 @@ fn checked_line(start: u32, step: u32, samples: &[u32]) -> Result<Table, Refusal
 }
 
 /// A sum with the efficacy of V, V10 or V', which is 683 over the value at 555.017 nm, since that at
-/// the peak is 1. Weights at 10^13 to one times samples in millionths, over the thousandths of the
+/// the peak is 1, or of a cone-fundamental curve, which has no peak factor. Weights at 10^13 to one times samples in millionths, over the thousandths of the
 /// reading, are at 10^16 to one as that value is.
 fn millilux(sum: u128, curve: &Table, step: u32) -> u32 {
     nearest(683 * sum, u128::from(step) * at_reference(curve))
+}
+
+/// The cone-fundamental curve of 2° or of 10°, or 6.
+fn cone_curve(observer: u32) -> Result<&'static Table, Refusal> {
+    match observer {
+        32 => Ok(&V_F),
+        40 => Ok(&V_F10),
+        _ => Err(OBSERVER),
+    }
 }
 
 fn illuminance(curve: &Table, start: u32, step: u32, samples: &[u32]) -> Result<u32, Refusal> {

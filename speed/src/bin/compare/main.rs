@@ -54,6 +54,7 @@ fn compare_light(mut check: Check, light: &Light) -> Result<(), Difference> {
     let &Light {
         k,
         observer,
+        cone_observer,
         start,
         step,
         ..
@@ -71,6 +72,7 @@ fn compare_light(mut check: Check, light: &Light) -> Result<(), Difference> {
     same!("qr_scotopic", scotopic(start, step));
     same!("qr_photopic_10", photopic_10(start, step));
     same!("qr_mesopic", mesopic(k, start, step));
+    same!("qr_research", research(cone_observer, start, step));
     same!("qr_xyz", xyz(observer, start, step));
     same!("qr_xy", xy(observer, start, step));
     same!("qr_uv", uv(observer, start, step));
@@ -149,6 +151,7 @@ fn compare_overlong() -> Result<(), Difference> {
         ffi::scotopic(start, step, &samples).number,
         ffi::photopic_10(start, step, &samples).number,
         ffi::mesopic(500, start, step, &samples).number,
+        ffi::research(32, start, step, &samples).number,
         ffi::xyz(2, start, step, &samples).number,
         ffi::xy(2, start, step, &samples).number,
         ffi::uv(2, start, step, &samples).number,
@@ -165,7 +168,7 @@ fn compare_overlong() -> Result<(), Difference> {
         ffi::panel_chart(2, 1, start, step, &reflectances).number,
         ffi::panel_figures(2, 1, start, step, &reflectances).number,
     ];
-    if numbers != [3; 10] || panel_numbers != [3; 5] {
+    if numbers != [3; 11] || panel_numbers != [3; 5] {
         return Err(format!(
             "{COUNT} samples at step 10 are not refused 3 everywhere: {numbers:?} {panel_numbers:?}"
         ));

@@ -1,7 +1,7 @@
 -- In each arm the table and the units are the curve's: written by tools/tables.
 use mathlib.Core.Path.{_∙_}
 use borrow.Author.Needs.{needs}
-use Rattle.tables.specs.declared.Curve.the-variants.{XBar, YBar, ZBar, XBar10, YBar10, ZBar10, VPrime}
+use Rattle.tables.specs.declared.Curve.the-variants.{XBar, YBar, ZBar, XBar10, YBar10, ZBar10, VPrime, VF, VF10}
 use Rattle.tables.proofs.Held.{held}
 use Rattle.curves.proofs.ByCurve.{summed-by}
 use Rattle.curves.proofs.by_curve.by_curve.Statement.{statement}
@@ -42,6 +42,16 @@ sum-requires-7 c κs =
     let s = c .before .before .before .before in
     (rw (c .before .v-prime .ensures) (held VPrime), s .pre .0, s .pre .1)
 
+sum-requires-8 : tie.Need-sum-requires-8
+sum-requires-8 c κs =
+    let s = c .before .before .before .before in
+    (rw (c .before .v-f .ensures) (held VF), s .pre .0, s .pre .1)
+
+sum-requires-9 : tie.Need-sum-requires-9
+sum-requires-9 c κs =
+    let s = c .before .before .before .before in
+    (rw (c .before .v-f-10 .ensures) (held VF10), s .pre .0, s .pre .1)
+
 returns : tie.Need-returns
 returns c =
     rw (c .before .before .before .enum-told .given .1) (rw (c .before .before .x-bar .ensures) at (c .sum .ensures) ∙ summed-by XBar _)
@@ -70,6 +80,14 @@ returns-7 : tie.Need-returns-7
 returns-7 c =
     rw (c .before .before .before .enum-told7 .given .1) (rw (c .before .before .v-prime .ensures) at (c .sum7 .ensures) ∙ summed-by VPrime _)
 
+returns-8 : tie.Need-returns-8
+returns-8 c =
+    rw (c .before .before .before .enum-told8 .given .1) (rw (c .before .before .v-f .ensures) at (c .sum8 .ensures) ∙ summed-by VF _)
+
+returns-9 : tie.Need-returns-9
+returns-9 c =
+    rw (c .before .before .before .enum-told9 .given .1) (rw (c .before .before .v-f-10 .ensures) at (c .sum9 .ensures) ∙ summed-by VF10 _)
+
 pub by-curve-spec : {M : Type 1} → statement M
 by-curve-spec =
     tie.close
@@ -95,10 +113,18 @@ by-curve-spec =
     (λ c. search needs)
     (λ c κs. search needs)
     sum-requires-7
+    (λ c. search needs)
+    (λ c κs. search needs)
+    sum-requires-8
+    (λ c. search needs)
+    (λ c κs. search needs)
+    sum-requires-9
     returns
     returns-2
     returns-3
     returns-4
     returns-5
     returns-6
-    returns-7)
+    returns-7
+    returns-8
+    returns-9)

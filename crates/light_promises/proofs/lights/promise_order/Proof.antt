@@ -1,5 +1,5 @@
 -- Each sum is linear in the samples, so lights in order have readings in order.
-use Rattle.tables.specs.declared.Curve.the-variants.{YBar, VPrime, YBar10}
+use Rattle.tables.specs.declared.Curve.the-variants.{YBar, VPrime, YBar10, VF, VF10}
 use Rattle.light_promises.proofs.Instances.{illuminance-order, mesopic-order, xyz-ordered}
 use Rattle.light_promises.proofs.lights.promise_order.Statement.{statement}
 use Rattle.light_promises.proofs.lights.promise_order.Tie as tie
@@ -10,6 +10,8 @@ returns c =
       photopic = illuminance-order YBar;
       scotopic = illuminance-order VPrime;
       photopic-10 = illuminance-order YBar10;
+      research-32 = illuminance-order VF;
+      research-40 = illuminance-order VF10;
       mesopic = mesopic-order;
       xyz = xyz-ordered;
     }

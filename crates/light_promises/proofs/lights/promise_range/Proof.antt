@@ -1,7 +1,7 @@
 -- The sums of a light at the limit are the tables' sums, from which each number is computed.
 use mathlib.Core.Path.{refl}
 use Rattle.mixing.specs.Nearest.{nearest}
-use Rattle.tables.specs.declared.Curve.the-variants.{YBar, YBar10, VPrime}
+use Rattle.tables.specs.declared.Curve.the-variants.{YBar, YBar10, VPrime, VF, VF10}
 use Rattle.spectrum.proofs.Light.{W-bound}
 use Rattle.light_promises.proofs.Range.{illuminance-range, mesopic-range, mesopic-any, mesopic-0, xyz-range, xy-range, figures-range}
 use Rattle.light_promises.proofs.lights.promise_range.Statement.{statement}
@@ -15,6 +15,8 @@ returns c =
       photopic = illuminance-range YBar;
       scotopic = illuminance-range VPrime;
       photopic-10 = illuminance-range YBar10;
+      research-32 = illuminance-range VF;
+      research-40 = illuminance-range VF10;
       mesopic = mesopic-range;
       mesopic-any = mesopic-any;
       mesopic-0 = mesopic-0;
