@@ -86,7 +86,9 @@ fn light_as_at_555_017_has_683_lumens_a_watt() {
 
 #[test]
 fn research_figures() {
-    let both = |start, samples: &[u32]| [32, 40].map(|observer| research(observer, start, 1, samples).value);
+    let both = |start, samples: &[u32]| {
+        [32, 40].map(|observer| research(observer, start, 1, samples).value)
+    };
     assert_eq!(both(380, &light(&[(460, 1_000_000)])), [58187, 96637]);
     assert_eq!(both(360, &[1_000_000; 471]), [77248855, 80965642]);
     assert_eq!(both(380, &light(&[(389, 1_000_000)])), [0, 0]);

@@ -172,8 +172,8 @@ mod tests {
         let mut found = 0;
         for _ in 0..200 {
             let grid = Grid::of_step(&mut random, 1);
-            let observer = random.pick(&[2, 10]);
-            let fraction = fraction::of_light(&mut random, &grid, observer, 500);
+            let observers = [random.pick(&[2, 10]), random.pick(&[32, 40])];
+            let fraction = fraction::of_light(&mut random, &grid, observers, 500);
             let Some(samples) = (0..TRIES).find_map(|_| half(&mut random, &fraction)) else {
                 continue;
             };

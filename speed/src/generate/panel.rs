@@ -75,7 +75,9 @@ impl Panel {
             Fault::Reflectance => rows::spoil_reflectances(random, &mut self.reflectances),
             Fault::Step => self.step = faulty_step(random),
             Fault::Start => self.start = faulty_start(random),
-            Fault::Observer => self.observer = random.pick(&[0, 1, 3, 9, 11, 32, 40, 258, u32::MAX]),
+            Fault::Observer => {
+                self.observer = random.pick(&[0, 1, 3, 9, 11, 32, 40, 258, u32::MAX])
+            }
             Fault::Illuminant => self.illuminant = random.pick(&[0, 3, 4, 257, u32::MAX]),
         }
     }
