@@ -4,15 +4,15 @@ Each table stands twice: for the contracts in full, with what is computed over i
 The code has a function for each, with its proof, and `by_curve` an arm for each curve.
 """
 
+from string import Template
 from typing import NamedTuple
 
 # The stretches of places that a table has in the code before the rest of it, each with a unit of its own.
 STRETCHES = ("first", "second", "third")
+# The largest unit: weights are at 10^13 to one.
+LARGEST_POWER = 13
 # Fields that take no more room than this stand on one line where rt fmt lays out the code.
 SHORT = 18
-WRITTEN = "written by tools/tables"
-SPECS = "Rattle.tables.specs"
-NEEDED = ["(λ c. search needs)", "(λ c κs. search needs)"]
 
 
 class Misfit(Exception):
@@ -28,15 +28,20 @@ class Table(NamedTuple):
     meaning: str
     entries: list
 
-    def constant(self):
-        return self.name.upper()
+    def words(self):
+        """What the templates say of it."""
+        names = {"constant": self.name.upper(), "dashed": self.name.replace("_", "-"), "count": len(self.entries)}
+        return self._asdict() | names
 
-    def in_proofs(self):
-        return self.name.replace("_", "-")
+
+def filled(template, **words):
+    return Template(template).substitute(words)
 
 
-def text(lines):
-    return "\n".join(lines) + "\n"
+def for_each(template, tables):
+    """The template once for each table, with its place among them: `k` is nothing for the first, and then 2, 3 .."""
+    places = [("", "")] + [(str(number), f"-{number}") for number in range(2, len(tables) + 1)]
+    return "".join(filled(template, **table.words(), k=k, dash_k=dash_k) for table, (k, dash_k) in zip(tables, places))
 
 
 # The units of a curve's table
@@ -56,7 +61,7 @@ def stretches_of(table):
     """
     entries, stretches, end = table.entries, [], 0
     while end < len(entries):
-        ends = {10**power: end_in_units(entries, end, 10**power) for power in range(14)}
+        ends = {10**power: end_in_units(entries, end, 10**power) for power in range(LARGEST_POWER + 1)}
         # Of the units that reach as far the smallest, so that a table that fits as it stands is left so.
         unit = max(ends, key=lambda unit: (ends[unit], -unit))
         if ends[unit] == end:
@@ -82,155 +87,305 @@ def counts_of(table):
     return counts
 
 
+# What the code reads
+
+NUMBERS = """\
+// The tables as the code reads them, from 360 to 830 nm: written by tools/tables from the source documents. A table is built
+// anew where it is asked for; each has a function of its own, since one match over the numbers would look up every entry by
+// the curve.
+use crate::Illuminant;
+use crate::units::Stretch;
+use crate::units::Units;
+ghost use mathlib.Core.Path.{_≡_};
+ghost use Rattle.tables.specs.Tables.{powers};
+ghost use Rattle.tables.specs.Held.{inUnits};
+ghost use Rattle.tables.specs.declared.Curve.{Curve};
+ghost use Rattle.tables.specs.declared.Illuminant.{Illuminant};
+$curves
+// The whole table of an illuminant.
+pub fn powers_of(illuminant: Illuminant) -> [u32; $count]
+    ensures { λ r. ⌜ r ≡ powers illuminant ⌝ }
+{
+    match illuminant {
+$arms    }
+}
+$illuminants"""
+
+CURVE_NUMBERS = """
+// $meaning, counted in the unit of each stretch.
+const $constant: [u64; $count] = [
+$numbers];
+
+pub const ${constant}_UNITS: Units = Units {
+$units};
+
+pub fn $name() -> [u64; $count]
+    ensures { λ r. ⌜ r ≡ inUnits Curve.$variant ⌝ }
+{
+    $constant
+}
+"""
+
+ILLUMINANT_NUMBERS = """
+// $meaning.
+const $constant: [u32; $count] = [
+$numbers];
+
+fn $name() -> [u32; $count]
+    ensures { λ r. ⌜ r ≡ powers Illuminant.$variant ⌝ }
+{
+    $constant
+}
+"""
+
+BY_CURVE = """\
+// A row summed by a curve's table, with an arm for each curve: written by tools/tables.
+use crate::summed::sum;
+use exact::digits::Short;
+use tables::Curve;
+${uses}ghost use mathlib.Core.Path.{_≡_};
+ghost use Rattle.exact.specs.Value.{short};
+ghost use Rattle.grid.specs.Check.{Within};
+ghost use Rattle.mixing.specs.Sum.{weighted};
+ghost use Rattle.tables.specs.Curves.{weightOf};
+ghost use Rattle.curves.specs.Work.{lineOf};
+
+// Of the row `low` or, where it comes in two, of high · 2^21 + low: the table is built once for both, and lent where it
+// is built, since a function that chose one would copy it.
+pub fn by_curve(curve: Curve, in_two: bool, high: &[u64; 471], low: &[u64; 471]) -> Short
+    requires { ⌜ Within 10000000 (now high) × Within 10000000 (now low) ⌝ }
+    ensures { λ r. ⌜ short r ≡ weighted 471 (weightOf curve) (lineOf in_two (now (high .entry)) (now (low .entry))) ⌝ }
+{
+    match curve {
+$arms    }
+}
+"""
+
+
+def lines_of(numbers):
+    return "".join(f"    {number},\n" for number in numbers)
+
+
 def units_text(table):
     stretches = stretches_of(table)
-    lines = [f"pub const {table.constant()}_UNITS: Units = Units {{"]
+    lines = []
     for which, stretch in zip(STRETCHES, stretches):
         fields = [f"end: {stretch.end}", f"unit: {stretch.unit}"]
         if len(", ".join(fields)) <= SHORT:
-            lines += [f"    {which}: Stretch {{ {', '.join(fields)} }},"]
+            lines += [f"    {which}: Stretch {{ {', '.join(fields)} }},\n"]
         else:
-            lines += [f"    {which}: Stretch {{", *(f"        {field}," for field in fields), "    },"]
-    return lines + [f"    rest: {stretches[-1].unit},", "};"]
-
-
-# What the code reads
+            lines += [f"    {which}: Stretch {{\n", *(f"        {field},\n" for field in fields), "    },\n"]
+    return "".join([*lines, f"    rest: {stretches[-1].unit},\n"])
 
 
 def numbers_text(curves, illuminants):
-    lines = [f"// The tables as the code reads them, from 360 to 830 nm: {WRITTEN} from the source documents. A table is"]
-    lines += ["// built anew where it is asked for; each has a function of its own, since one match over the numbers would look up every"]
-    lines += ["// entry by the curve."]
-    lines += ["use crate::Illuminant;", "use crate::units::Stretch;", "use crate::units::Units;"]
-    lines += ["ghost use mathlib.Core.Path.{_≡_};"]
-    lines += [f"ghost use {SPECS}.Tables.{{powers}};", f"ghost use {SPECS}.Held.{{inUnits}};"]
-    lines += [f"ghost use {SPECS}.declared.{enum}.{{{enum}}};" for enum in ("Curve", "Illuminant")]
-    for table in curves:
-        lines += ["", f"// {table.meaning}, counted in the unit of each stretch."]
-        lines += [*array_text(table, "u64", counts_of(table)), "", *units_text(table), "", *leaf_text(table, "pub fn", "u64", "inUnits")]
-    lines += ["", "// The whole table of an illuminant.", f"pub fn powers_of(illuminant: Illuminant) -> [u32; {len(illuminants[0].entries)}]"]
-    lines += ["    ensures { λ r. ⌜ r ≡ powers illuminant ⌝ }", "{", "    match illuminant {"]
-    lines += [*(f"        Illuminant::{table.variant} => {table.name}()," for table in illuminants), "    }", "}"]
-    for table in illuminants:
-        lines += ["", f"// {table.meaning}.", *array_text(table, "u32", table.entries), "", *leaf_text(table, "fn", "u32", "powers")]
-    return text(lines)
-
-
-def array_text(table, width, numbers):
-    return [f"const {table.constant()}: [{width}; {len(numbers)}] = [", *(f"    {number}," for number in numbers), "];"]
-
-
-def leaf_text(table, fn, width, definition):
-    """The function that gives a table's numbers."""
-    ensures = f"    ensures {{ λ r. ⌜ r ≡ {definition} {table.enum}.{table.variant} ⌝ }}"
-    return [f"{fn} {table.name}() -> [{width}; {len(table.entries)}]", ensures, "{", f"    {table.constant()}", "}"]
+    return filled(
+        NUMBERS,
+        count=len(illuminants[0].entries),
+        arms=for_each("        Illuminant::$variant => $name(),\n", illuminants),
+        curves="".join(
+            filled(CURVE_NUMBERS, **curve.words(), numbers=lines_of(counts_of(curve)), units=units_text(curve))
+            for curve in curves
+        ),
+        illuminants="".join(
+            filled(ILLUMINANT_NUMBERS, **table.words(), numbers=lines_of(table.entries)) for table in illuminants
+        ),
+    )
 
 
 def by_curve_text(curves):
-    lines = [f"// A row summed by a curve's table, with an arm for each curve: {WRITTEN}."]
-    lines += ["use crate::summed::sum;", "use exact::digits::Short;", "use tables::Curve;"]
-    lines += sorted(f"use tables::numbers::{name};" for curve in curves for name in (curve.name, f"{curve.constant()}_UNITS"))
-    lines += ["ghost use mathlib.Core.Path.{_≡_};", "ghost use Rattle.exact.specs.Value.{short};"]
-    lines += ["ghost use Rattle.grid.specs.Check.{Within};", "ghost use Rattle.mixing.specs.Sum.{weighted};"]
-    lines += ["ghost use Rattle.tables.specs.Curves.{weightOf};", "ghost use Rattle.curves.specs.Work.{lineOf};"]
-    lines += ["", "// Of the row `low` or, where it comes in two, of high · 2^21 + low: the table is built once for both, and lent where it"]
-    lines += ["// is built, since a function that chose one would copy it."]
-    lines += ["pub fn by_curve(curve: Curve, in_two: bool, high: &[u64; 471], low: &[u64; 471]) -> Short"]
-    lines += ["    requires { ⌜ Within 10000000 (now high) × Within 10000000 (now low) ⌝ }"]
-    line = "(lineOf in_two (now (high .entry)) (now (low .entry)))"
-    lines += [f"    ensures {{ λ r. ⌜ short r ≡ weighted 471 (weightOf curve) {line} ⌝ }}", "{", "    match curve {"]
-    for curve in curves:
-        lines += [f"        Curve::{curve.variant} => sum(&{curve.name}(), {curve.constant()}_UNITS, in_two, high, low),"]
-    return text([*lines, "    }", "}"])
+    uses = for_each("use tables::numbers::${constant}_UNITS;\nuse tables::numbers::$name;\n", curves)
+    return filled(
+        BY_CURVE,
+        uses="".join(sorted(uses.splitlines(keepends=True))),
+        arms=for_each("        Curve::$variant => sum(&$name(), ${constant}_UNITS, in_two, high, low),\n", curves),
+    )
 
 
 # The proofs of the code
 
+CURVE_PROOF = """\
+-- The numbers of the code are the table's, counted in its units: written by tools/tables.
+use mathlib.Core.Path.{refl}
+use Rattle.tables.specs.Tables.{table}
+use Rattle.tables.specs.Units.{unitAt}
+use Rattle.tables.specs.Held.{countedFrom, inUnits}
+use Rattle.tables.proofs.numbers.$name.Statement.{statement}
+use Rattle.tables.proofs.numbers.$name.Tie as tie
 
-def proof_text(says, uses, crate, function, answers, given):
-    """The proof of a function from its answers, and what is given for each need in turn."""
-    here = f"Rattle.{crate}.proofs.{function}"
-    spec = f"{function.split('.')[-1].replace('_', '-')}-spec"
-    lines = [f"-- {says}: {WRITTEN}.", *uses, f"use {here}.Statement.{{statement}}", f"use {here}.Tie as tie", ""]
-    lines += [*answers, f"pub {spec} : {{M : Type 1}} → statement M", f"{spec} =", "    tie.close"]
-    return text(lines + ["    (tie.spec", *(f"    {need}" for need in given[:-1]), f"    {given[-1]})"])
+returns : tie.Need-returns
+unfolding inUnits countedFrom unitAt table
+returns c = refl
+
+pub $dashed-spec : {M : Type 1} → statement M
+$dashed-spec = tie.close (tie.spec returns)
+"""
+
+ILLUMINANT_PROOF = """\
+-- The numbers of the code are the table's: written by tools/tables.
+use mathlib.Core.Path.{refl}
+use Rattle.tables.specs.Tables.{powers}
+use Rattle.tables.proofs.numbers.$name.Statement.{statement}
+use Rattle.tables.proofs.numbers.$name.Tie as tie
+
+returns : tie.Need-returns
+unfolding powers
+returns c = refl
+
+pub $dashed-spec : {M : Type 1} → statement M
+$dashed-spec = tie.close (tie.spec returns)
+"""
+
+POWERS_OF_PROOF = """\
+-- In each arm the table is the definition's: written by tools/tables.
+use borrow.Author.Needs.{needs}
+use Rattle.tables.proofs.numbers.powers_of.Statement.{statement}
+use Rattle.tables.proofs.numbers.powers_of.Tie as tie
+
+${returns}pub powers-of-spec : {M : Type 1} → statement M
+powers-of-spec =
+    tie.close
+    (tie.spec
+    $given)
+"""
+
+POWERS_OF_RETURNS = """\
+returns$dash_k : tie.Need-returns$dash_k
+returns$dash_k c = rw (c .before .enum-told$k .given .1) (c .$dashed .ensures)
+
+"""
+
+BY_CURVE_PROOF = """\
+-- In each arm the table and the units are the curve's: written by tools/tables.
+use mathlib.Core.Path.{_∙_}
+use borrow.Author.Needs.{needs}
+use Rattle.tables.specs.declared.Curve.the-variants.{$variants}
+use Rattle.tables.proofs.Held.{held}
+use Rattle.curves.proofs.ByCurve.{summed-by}
+use Rattle.curves.proofs.by_curve.by_curve.Statement.{statement}
+use Rattle.curves.proofs.by_curve.by_curve.Tie as tie
+
+${requires}${returns}pub by-curve-spec : {M : Type 1} → statement M
+by-curve-spec =
+    tie.close
+    (tie.spec
+    $given)
+"""
+
+BY_CURVE_REQUIRES = """\
+sum-requires$dash_k : tie.Need-sum-requires$dash_k
+sum-requires$dash_k c κs =
+    let s = c .before .before .before .before in
+    (rw (c .before .$dashed .ensures) (held $variant), s .pre .0, s .pre .1)
+
+"""
+
+BY_CURVE_RETURNS = """\
+returns$dash_k : tie.Need-returns$dash_k
+returns$dash_k c =
+    let lent = c .before .before in
+    rw (lent .before .enum-told$k .given .1) (rw (lent .$dashed .ensures) at (c .sum$k .ensures) ∙ summed-by $variant _)
+
+"""
+
+DETERMINED = """\
+-- The functions that give the curves' tables are determined: written by tools/tables.
+use Rattle.quailribbon.proofs.Determined.{OneResult, same}
+$uses$lemmas"""
+
+DETERMINED_LEMMA = """
+one-$dashed : OneResult $dashed.Post
+one-$dashed k a r q e f p s = same p s
+"""
 
 
-def leaf_proof(table):
-    """The proof of the function that gives a table's numbers."""
-    uses, unfolding = [f"use {SPECS}.Tables.{{powers}}"], "powers"
-    if table.enum == "Curve":
-        uses = [f"use {SPECS}.Tables.{{table}}", f"use {SPECS}.Units.{{unitAt}}", f"use {SPECS}.Held.{{countedFrom, inUnits}}"]
-        unfolding = "inUnits countedFrom unitAt table"
-    answers = ["returns : tie.Need-returns", f"unfolding {unfolding}", "returns c = refl", ""]
-    uses = ["use mathlib.Core.Path.{refl}", *uses]
-    return proof_text("The numbers of the code are the table's", uses, "tables", f"numbers.{table.name}", answers, ["returns"])
-
-
-def numbered(name, number):
-    """The name of the numbered one of several like answers, which is the bare name for the first."""
-    return name if number == 1 else f"{name}-{number}"
-
-
-def learnt(name, number):
-    """The same of what is learnt from a step of the code."""
-    return name if number == 1 else f"{name}{number}"
+def given_text(needs, tables):
+    """What is given for the needs of each arm, and then for what each returns, a line each."""
+    lines = for_each(needs, tables) + for_each("returns$dash_k\n", tables)
+    return "\n    ".join(lines.splitlines())
 
 
 def powers_of_proof(illuminants):
-    answers, returns = [], []
-    for number, table in enumerate(illuminants, 1):
-        name = numbered("returns", number)
-        told = f"c .before .{learnt('enum-told', number)} .given .1"
-        answers += [f"{name} : tie.Need-{name}", f"{name} c = rw ({told}) (c .{table.in_proofs()} .ensures)", ""]
-        returns += [name]
-    uses = ["use borrow.Author.Needs.{needs}"]
-    given = NEEDED * len(illuminants) + returns
-    return proof_text("In each arm the table is the definition's", uses, "tables", "numbers.powers_of", answers, given)
+    needs = "(λ c. search needs)\n(λ c κs. search needs)\n"
+    returns = for_each(POWERS_OF_RETURNS, illuminants)
+    return filled(POWERS_OF_PROOF, returns=returns, given=given_text(needs, illuminants))
 
 
 def by_curve_proof(curves):
-    requires, returns, given, last = [], [], [], []
-    for number, curve in enumerate(curves, 1):
-        name, leaf = numbered("sum-requires", number), f".{curve.in_proofs()} .ensures"
-        requires += [f"{name} : tie.Need-{name}", f"{name} c κs ="]
-        requires += ["    let s = c .before .before .before .before in"]
-        requires += [f"    (rw (c .before {leaf}) (held {curve.variant}), s .pre .0, s .pre .1)", ""]
-        given += [*NEEDED, name]
-        name, told = numbered("returns", number), f"c .before .before .before .{learnt('enum-told', number)} .given .1"
-        returns += [f"{name} : tie.Need-{name}", f"{name} c ="]
-        returns += [f"    rw ({told}) (rw (c .before .before {leaf}) at (c .{learnt('sum', number)} .ensures) ∙ summed-by {curve.variant} _)", ""]
-        last += [name]
-    uses = ["use mathlib.Core.Path.{_∙_}", "use borrow.Author.Needs.{needs}"]
-    uses += [f"use Rattle.tables.specs.declared.Curve.the-variants.{{{', '.join(curve.variant for curve in curves)}}}"]
-    uses += ["use Rattle.tables.proofs.Held.{held}", "use Rattle.curves.proofs.ByCurve.{summed-by}"]
-    says = "In each arm the table and the units are the curve's"
-    return proof_text(says, uses, "curves", "by_curve.by_curve", requires + returns, given + last)
+    return filled(
+        BY_CURVE_PROOF,
+        variants=variants_of(curves),
+        requires=for_each(BY_CURVE_REQUIRES, curves),
+        returns=for_each(BY_CURVE_RETURNS, curves),
+        given=given_text("(λ c. search needs)\n(λ c κs. search needs)\nsum-requires$dash_k\n", curves),
+    )
 
 
 def determined_text(curves):
-    lines = [f"-- The functions that give the curves' tables are determined: {WRITTEN}."]
-    lines += ["use Rattle.quailribbon.proofs.Determined.{OneResult, same}"]
-    lines += [f"use Rattle.tables.proofs.numbers.{curve.name}.Reads as {curve.in_proofs()}" for curve in curves]
-    for curve in curves:
-        name = curve.in_proofs()
-        lines += ["", f"one-{name} : OneResult {name}.Post", f"one-{name} k a r q e f p s = same p s"]
-    return text(lines)
+    uses = for_each("use Rattle.tables.proofs.numbers.$name.Reads as $dashed\n", curves)
+    return filled(DETERMINED, uses=uses, lemmas=for_each(DETERMINED_LEMMA, curves))
 
 
 # What the contracts read
 
+TABLES = """\
+-- The tables as the contracts read them, from 360 to 830 nm: written by tools/tables from the source documents.
+use mathlib.Core.List.{List, [], _∷_, _++_}
+use Prim.Native.Nat.{ℕ}
+use lib.ListN.{replicate}
+use Rattle.tables.specs.declared.Curve.{Curve}
+use Rattle.tables.specs.declared.Curve.the-variants.{$curves}
+use Rattle.tables.specs.declared.Illuminant.{Illuminant}
+use Rattle.tables.specs.declared.Illuminant.the-variants.{$illuminants}
 
-def uses_of(*kinds):
-    lines = []
-    for tables in kinds:
-        enum, variants = tables[0].enum, ", ".join(table.variant for table in tables)
-        lines += [f"use {SPECS}.declared.{enum}.{{{enum}}}", f"use {SPECS}.declared.{enum}.the-variants.{{{variants}}}"]
-    return lines
+-- the whole table of a curve, from 360 nm on
+unfoldable pub table : Curve → List ℕ
+$table
+-- and of an illuminant
+unfoldable pub powers : Illuminant → List ℕ
+$powers"""
+
+COLUMNS = """\
+-- What is computed over each table: written by tools/tables from the source documents, and proved.
+use mathlib.Core.List.{List, [], _∷_}
+use Prim.Native.Nat.{ℕ}
+use Rattle.tables.specs.Units.{stretch, stretches}
+use Rattle.tables.specs.declared.Curve.{Curve}
+use Rattle.tables.specs.declared.Curve.the-variants.{$curves}
+use Rattle.tables.specs.declared.Illuminant.{Illuminant}
+use Rattle.tables.specs.declared.Illuminant.the-variants.{$illuminants}
+use Rattle.tables.specs.declared.units.Units.{Units}
+
+-- every curve
+abbrev pub curves : List Curve
+curves = $list
+
+-- what the entries of a curve add up to
+abbrev pub tableSum : Curve → ℕ
+$table_sum
+-- and the largest of them
+abbrev pub tableTop : Curve → ℕ
+$table_top
+-- the same of an illuminant
+abbrev pub powersSum : Illuminant → ℕ
+$powers_sum
+-- and its largest
+abbrev pub powersTop : Illuminant → ℕ
+$powers_top
+-- what illuminant times curve adds up to
+abbrev pub litSum : Illuminant → Curve → ℕ
+$lit_sum
+-- the units in which the code counts a curve's entries: x̄ below place 190, which is 550 nm, in thousands
+abbrev pub units : Curve → Units
+$units"""
+
+
+def variants_of(tables):
+    return ", ".join(table.variant for table in tables)
 
 
 def list_text(entries):
-    """A table's entries, ten a line, so that a line is ten nanometres; whole tens of nothing before or behind them at once."""
+    """A table's entries, ten a line, so that a line is ten nanometres; whole tens of 0 at an end are said at once."""
     tens = [entries[at : at + 10] for at in range(0, len(entries), 10)]
     lit = [at for at, ten in enumerate(tens) if any(ten)]
     begin, end = 10 * lit[0], min(10 * lit[-1] + 10, len(entries))
@@ -240,24 +395,24 @@ def list_text(entries):
     return "    " + before + "\n    ∷ ".join([*rows, behind])
 
 
+def clauses(name, tables, number):
+    """A line of a definition for each table."""
+    return "".join(f"{name} {table.variant} = {number(table)}\n" for table in tables)
+
+
+def listed(name, tables):
+    """The same with each table's entries, and what it is."""
+    return "".join(f"-- {table.meaning}\n{name} {table.variant} =\n{list_text(table.entries)}\n" for table in tables)
+
+
 def tables_text(curves, illuminants):
-    lines = [f"-- The tables as the contracts read them, from 360 to 830 nm: {WRITTEN} from the source documents."]
-    lines += ["use mathlib.Core.List.{List, [], _∷_, _++_}", "use Prim.Native.Nat.{ℕ}", "use lib.ListN.{replicate}"]
-    lines += uses_of(curves, illuminants)
-    for says, name, tables in (
-        ("the whole table of a curve, from 360 nm on", "table", curves),
-        ("and of an illuminant", "powers", illuminants),
-    ):
-        lines += ["", f"-- {says}", f"unfoldable pub {name} : {tables[0].enum} → List ℕ"]
-        for table in tables:
-            lines += [f"-- {table.meaning}", f"{name} {table.variant} =", list_text(table.entries)]
-    return text(lines)
-
-
-def by_variant(says, name, tables, result, number):
-    """A definition with a line for each table."""
-    rows = [f"{name} {table.variant} = {number(table)}" for table in tables]
-    return ["", f"-- {says}", f"abbrev pub {name} : {tables[0].enum} → {result}", *rows]
+    return filled(
+        TABLES,
+        curves=variants_of(curves),
+        illuminants=variants_of(illuminants),
+        table=listed("table", curves),
+        powers=listed("powers", illuminants),
+    )
 
 
 def sum_of(table):
@@ -273,33 +428,40 @@ def units_of(curve):
     return f"stretches {' '.join(f'(stretch {stretch.end} {stretch.unit})' for stretch in stretches)} {rest.unit}"
 
 
+def lit_sums(illuminant, curves):
+    def lit_by(curve):
+        return sum(power * weight for power, weight in zip(illuminant.entries, curve.entries))
+
+    return clauses(f"litSum {illuminant.variant}", curves, lit_by)
+
+
 def columns_text(curves, illuminants):
-    lines = [f"-- What is computed over each table: {WRITTEN} from the source documents, and proved."]
-    lines += ["use mathlib.Core.List.{List, [], _∷_}", "use Prim.Native.Nat.{ℕ}", f"use {SPECS}.Units.{{stretch, stretches}}"]
-    lines += [*uses_of(curves, illuminants), f"use {SPECS}.declared.units.Units.{{Units}}"]
-    lines += ["", "-- every curve", "abbrev pub curves : List Curve", f"curves = {' ∷ '.join(curve.variant for curve in curves)} ∷ []"]
-    lines += by_variant("what the entries of a curve add up to", "tableSum", curves, "ℕ", sum_of)
-    lines += by_variant("and the largest of them", "tableTop", curves, "ℕ", largest_of)
-    lines += by_variant("the same of an illuminant", "powersSum", illuminants, "ℕ", sum_of)
-    lines += by_variant("and its largest", "powersTop", illuminants, "ℕ", largest_of)
-    lines += ["", "-- what illuminant times curve adds up to", "abbrev pub litSum : Illuminant → Curve → ℕ"]
-    for illuminant in illuminants:
-        for curve in curves:
-            lit = sum(power * weight for power, weight in zip(illuminant.entries, curve.entries))
-            lines += [f"litSum {illuminant.variant} {curve.variant} = {lit}"]
-    says = "the units in which the code counts a curve's entries: x̄ below place 190, which is 550 nm, in thousands"
-    return text(lines + by_variant(says, "units", curves, "Units", units_of))
+    return filled(
+        COLUMNS,
+        curves=variants_of(curves),
+        illuminants=variants_of(illuminants),
+        list=" ∷ ".join([curve.variant for curve in curves] + ["[]"]),
+        table_sum=clauses("tableSum", curves, sum_of),
+        table_top=clauses("tableTop", curves, largest_of),
+        powers_sum=clauses("powersSum", illuminants, sum_of),
+        powers_top=clauses("powersTop", illuminants, largest_of),
+        lit_sum="".join(lit_sums(illuminant, curves) for illuminant in illuminants),
+        units=clauses("units", curves, units_of),
+    )
 
 
 def texts_of(curves, illuminants):
     """Every file by its name."""
+    proofs = "crates/tables/proofs/numbers"
     texts = {
         "crates/tables/src/numbers.rt": numbers_text(curves, illuminants),
         "crates/tables/specs/Tables.antt": tables_text(curves, illuminants),
         "crates/tables/specs/Columns.antt": columns_text(curves, illuminants),
-        "crates/tables/proofs/numbers/powers_of/Proof.antt": powers_of_proof(illuminants),
+        f"{proofs}/powers_of/Proof.antt": powers_of_proof(illuminants),
         "crates/curves/src/by_curve.rt": by_curve_text(curves),
         "crates/curves/proofs/by_curve/by_curve/Proof.antt": by_curve_proof(curves),
         "crates/quailribbon/proofs/DeterminedTables.antt": determined_text(curves),
     }
-    return texts | {f"crates/tables/proofs/numbers/{table.name}/Proof.antt": leaf_proof(table) for table in curves + illuminants}
+    for template, tables in ((CURVE_PROOF, curves), (ILLUMINANT_PROOF, illuminants)):
+        texts |= {f"{proofs}/{table.name}/Proof.antt": filled(template, **table.words()) for table in tables}
+    return texts

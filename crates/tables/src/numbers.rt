@@ -1,6 +1,6 @@
-// The tables as the code reads them, from 360 to 830 nm: written by tools/tables from the source documents. A table is
-// built anew where it is asked for; each has a function of its own, since one match over the numbers would look up every
-// entry by the curve.
+// The tables as the code reads them, from 360 to 830 nm: written by tools/tables from the source documents. A table is built
+// anew where it is asked for; each has a function of its own, since one match over the numbers would look up every entry by
+// the curve.
 use crate::Illuminant;
 use crate::units::Stretch;
 use crate::units::Units;

@@ -54,39 +54,48 @@ sum-requires-9 c κs =
 
 returns : tie.Need-returns
 returns c =
-    rw (c .before .before .before .enum-told .given .1) (rw (c .before .before .x-bar .ensures) at (c .sum .ensures) ∙ summed-by XBar _)
+    let lent = c .before .before in
+    rw (lent .before .enum-told .given .1) (rw (lent .x-bar .ensures) at (c .sum .ensures) ∙ summed-by XBar _)
 
 returns-2 : tie.Need-returns-2
 returns-2 c =
-    rw (c .before .before .before .enum-told2 .given .1) (rw (c .before .before .y-bar .ensures) at (c .sum2 .ensures) ∙ summed-by YBar _)
+    let lent = c .before .before in
+    rw (lent .before .enum-told2 .given .1) (rw (lent .y-bar .ensures) at (c .sum2 .ensures) ∙ summed-by YBar _)
 
 returns-3 : tie.Need-returns-3
 returns-3 c =
-    rw (c .before .before .before .enum-told3 .given .1) (rw (c .before .before .z-bar .ensures) at (c .sum3 .ensures) ∙ summed-by ZBar _)
+    let lent = c .before .before in
+    rw (lent .before .enum-told3 .given .1) (rw (lent .z-bar .ensures) at (c .sum3 .ensures) ∙ summed-by ZBar _)
 
 returns-4 : tie.Need-returns-4
 returns-4 c =
-    rw (c .before .before .before .enum-told4 .given .1) (rw (c .before .before .x-bar-10 .ensures) at (c .sum4 .ensures) ∙ summed-by XBar10 _)
+    let lent = c .before .before in
+    rw (lent .before .enum-told4 .given .1) (rw (lent .x-bar-10 .ensures) at (c .sum4 .ensures) ∙ summed-by XBar10 _)
 
 returns-5 : tie.Need-returns-5
 returns-5 c =
-    rw (c .before .before .before .enum-told5 .given .1) (rw (c .before .before .y-bar-10 .ensures) at (c .sum5 .ensures) ∙ summed-by YBar10 _)
+    let lent = c .before .before in
+    rw (lent .before .enum-told5 .given .1) (rw (lent .y-bar-10 .ensures) at (c .sum5 .ensures) ∙ summed-by YBar10 _)
 
 returns-6 : tie.Need-returns-6
 returns-6 c =
-    rw (c .before .before .before .enum-told6 .given .1) (rw (c .before .before .z-bar-10 .ensures) at (c .sum6 .ensures) ∙ summed-by ZBar10 _)
+    let lent = c .before .before in
+    rw (lent .before .enum-told6 .given .1) (rw (lent .z-bar-10 .ensures) at (c .sum6 .ensures) ∙ summed-by ZBar10 _)
 
 returns-7 : tie.Need-returns-7
 returns-7 c =
-    rw (c .before .before .before .enum-told7 .given .1) (rw (c .before .before .v-prime .ensures) at (c .sum7 .ensures) ∙ summed-by VPrime _)
+    let lent = c .before .before in
+    rw (lent .before .enum-told7 .given .1) (rw (lent .v-prime .ensures) at (c .sum7 .ensures) ∙ summed-by VPrime _)
 
 returns-8 : tie.Need-returns-8
 returns-8 c =
-    rw (c .before .before .before .enum-told8 .given .1) (rw (c .before .before .v-f .ensures) at (c .sum8 .ensures) ∙ summed-by VF _)
+    let lent = c .before .before in
+    rw (lent .before .enum-told8 .given .1) (rw (lent .v-f .ensures) at (c .sum8 .ensures) ∙ summed-by VF _)
 
 returns-9 : tie.Need-returns-9
 returns-9 c =
-    rw (c .before .before .before .enum-told9 .given .1) (rw (c .before .before .v-f-10 .ensures) at (c .sum9 .ensures) ∙ summed-by VF10 _)
+    let lent = c .before .before in
+    rw (lent .before .enum-told9 .given .1) (rw (lent .v-f-10 .ensures) at (c .sum9 .ensures) ∙ summed-by VF10 _)
 
 pub by-curve-spec : {M : Type 1} → statement M
 by-curve-spec =

@@ -9,7 +9,4 @@ unfolding powers
 returns c = refl
 
 pub illuminant-a-spec : {M : Type 1} → statement M
-illuminant-a-spec =
-    tie.close
-    (tie.spec
-    returns)
+illuminant-a-spec = tie.close (tie.spec returns)

@@ -9,7 +9,4 @@ unfolding powers
 returns c = refl
 
 pub illuminant-d65-spec : {M : Type 1} → statement M
-illuminant-d65-spec =
-    tie.close
-    (tie.spec
-    returns)
+illuminant-d65-spec = tie.close (tie.spec returns)

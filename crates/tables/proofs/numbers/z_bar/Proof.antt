@@ -1,4 +1,4 @@
--- The numbers of the code are the table's: written by tools/tables.
+-- The numbers of the code are the table's, counted in its units: written by tools/tables.
 use mathlib.Core.Path.{refl}
 use Rattle.tables.specs.Tables.{table}
 use Rattle.tables.specs.Units.{unitAt}
@@ -11,7 +11,4 @@ unfolding inUnits countedFrom unitAt table
 returns c = refl
 
 pub z-bar-spec : {M : Type 1} → statement M
-z-bar-spec =
-    tie.close
-    (tie.spec
-    returns)
+z-bar-spec = tie.close (tie.spec returns)
