@@ -30,7 +30,7 @@ enum {
     QR_COUNT = 3,        /* no samples, or the last wavelength is below 780 or above 830 */
     QR_SAMPLE = 4,       /* a sample above 1,000,000 */
     QR_MESOPIC = 5,      /* k above 1000 */
-    QR_OBSERVER = 6,     /* neither 2 nor 10 */
+    QR_OBSERVER = 6,     /* neither 2 nor 10; for a research figure neither 32 nor 40 */
     QR_ILLUMINANT = 7,   /* neither 1 (A) nor 2 (D65) */
     QR_REFLECTANCE = 8,  /* a reflectance above 10,000 */
     QR_DARK = 9,         /* x and y, or u' and v', where the three exact sums are 0 */

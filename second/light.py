@@ -93,7 +93,7 @@ def efficacy_of_one(weights):
 
 
 def efficacy_at(peak, weights):
-    """That efficacy times the table value at the curve's peak."""
+    """The efficacy at the curve's peak: 683 times the table value there, over the value at 555.017 nm."""
     return table_value(weights, peak) * efficacy_of_one(weights)
 
 

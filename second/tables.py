@@ -56,8 +56,8 @@ NO_ROW = re.compile(
     r"|for 2° field size"
 )
 DECIMAL = re.compile(r"(\d+),(\d+(?: \d+)*)")
-CURVE_CELL = rf"(\d\.\d{{{WEIGHT_PLACES}}})"
-CURVES_ROW = re.compile(rf"(\d{{3}})\t{CURVE_CELL}\t{CURVE_CELL}")
+CURVE_CELL = rf"([0-9]\.[0-9]{{{WEIGHT_PLACES}}})"
+CURVES_ROW = re.compile(rf"([0-9]{{3}})\t{CURVE_CELL}\t{CURVE_CELL}")
 SUM = re.compile(r"\$\$\\(?:Sigma|sum) \\bar\{([xyz])\}(?:_\{(10)\})?\(\\lambda\) = (.*)\$\$")
 
 HEAD = """\

@@ -1,7 +1,8 @@
-"""The files of the tree that hold the tables, as text: all that a table has of its own stands in them.
+"""The files of the tree that name every table, as text.
 
 Each table stands twice: for the contracts in full, with what is computed over it, and for the code, a curve's in units.
-The code has a function for each, with its proof, and `by_curve` an arm for each curve.
+The code has a function for each, with its proof, and `by_curve` an arm for each curve; `each` turns what is computed
+over the list of all curves into a law.
 """
 
 from string import Template
@@ -90,9 +91,8 @@ def counts_of(table):
 # What the code reads
 
 NUMBERS = """\
-// The tables as the code reads them, from 360 to 830 nm: written by tools/tables from the source documents. A table is built
-// anew where it is asked for; each has a function of its own, since one match over the numbers would look up every entry by
-// the curve.
+// The tables as the code reads them, from 360 to 830 nm: written by tools/tables. A table is built anew where it is asked for;
+// each has a function of its own, since one match over the numbers would look up every entry by the curve.
 use crate::Illuminant;
 use crate::units::Stretch;
 use crate::units::Units;
@@ -288,6 +288,35 @@ returns$dash_k c =
 
 """
 
+EACH = """\
+-- What is computed alike over the list of all curves is equal at each of them: written by tools/tables.
+use mathlib.Core.Path.{_≡_, ap}
+use mathlib.Core.Bool.{true}
+use mathlib.Core.List.{List, map}
+use Prim.Native.Nat.{ℕ, _≤_}
+use borrow.Author.Tests.{leb-true}
+use lib.Dec.{leb}
+use lib.ListN.{getD}
+use Rattle.tables.specs.Columns.{curves}
+use Rattle.tables.specs.declared.Curve.{Curve}
+use Rattle.tables.specs.declared.Curve.the-variants.{$variants}
+
+pub each : {A : Type 0} (f g : Curve → A) → map f curves ≡ map g curves → (c : Curve) → f c ≡ g c
+each {A} f g e = go
+  where
+    at : (k : ℕ) → getD (map f curves) k (f $first) ≡ getD (map g curves) k (f $first)
+    at k = ap (λ (xs : List A). getD xs k (f $first)) e
+
+    go : (c : Curve) → f c ≡ g c
+$cases
+-- so is a bound that no curve's number passes, or falls short of
+pub each-most : (f : Curve → ℕ) (most : ℕ) → map (λ c. leb (f c) most) curves ≡ map (λ c. true) curves → (c : Curve) → f c ≤ most
+each-most f most e c = leb-true (f c) most (each (λ c. leb (f c) most) (λ c. true) e c)
+
+pub each-least : (f : Curve → ℕ) (least : ℕ) → map (λ c. leb least (f c)) curves ≡ map (λ c. true) curves → (c : Curve) → least ≤ f c
+each-least f least e c = leb-true least (f c) (each (λ c. leb least (f c)) (λ c. true) e c)
+"""
+
 DETERMINED = """\
 -- The functions that give the curves' tables are determined: written by tools/tables.
 use Rattle.quailribbon.proofs.Determined.{OneResult, same}
@@ -321,6 +350,11 @@ def by_curve_proof(curves):
     )
 
 
+def each_text(curves):
+    cases = "".join(f"    go {curve.variant} = at {place}\n" for place, curve in enumerate(curves))
+    return filled(EACH, variants=variants_of(curves), first=curves[0].variant, cases=cases)
+
+
 def determined_text(curves):
     uses = for_each("use Rattle.tables.proofs.numbers.$name.Reads as $dashed\n", curves)
     return filled(DETERMINED, uses=uses, lemmas=for_each(DETERMINED_LEMMA, curves))
@@ -329,7 +363,8 @@ def determined_text(curves):
 # What the contracts read
 
 TABLES = """\
--- The tables as the contracts read them, from 360 to 830 nm: written by tools/tables from the source documents.
+-- The tables as the contracts read them, from 360 to 830 nm: written by tools/tables from the source documents and, where said,
+-- from elsewhere.
 use mathlib.Core.List.{List, [], _∷_, _++_}
 use Prim.Native.Nat.{ℕ}
 use lib.ListN.{replicate}
@@ -346,7 +381,7 @@ unfoldable pub powers : Illuminant → List ℕ
 $powers"""
 
 COLUMNS = """\
--- What is computed over each table: written by tools/tables from the source documents, and proved.
+-- What is computed over each table: written by tools/tables, and proved.
 use mathlib.Core.List.{List, [], _∷_}
 use Prim.Native.Nat.{ℕ}
 use Rattle.tables.specs.Units.{stretch, stretches}
@@ -375,7 +410,7 @@ $powers_top
 -- what illuminant times curve adds up to
 abbrev pub litSum : Illuminant → Curve → ℕ
 $lit_sum
--- the units in which the code counts a curve's entries: x̄ below place 190, which is 550 nm, in thousands
+-- the units in which the code counts a curve's entries, stretch by stretch
 abbrev pub units : Curve → Units
 $units"""
 
@@ -457,6 +492,7 @@ def texts_of(curves, illuminants):
         "crates/tables/src/numbers.rt": numbers_text(curves, illuminants),
         "crates/tables/specs/Tables.antt": tables_text(curves, illuminants),
         "crates/tables/specs/Columns.antt": columns_text(curves, illuminants),
+        "crates/tables/proofs/Each.antt": each_text(curves),
         f"{proofs}/powers_of/Proof.antt": powers_of_proof(illuminants),
         "crates/curves/src/by_curve.rt": by_curve_text(curves),
         "crates/curves/proofs/by_curve/by_curve/Proof.antt": by_curve_proof(curves),

@@ -1,4 +1,4 @@
--- The peaks are 1 where there is one, so an efficacy is 683 · 10^16 over a constant, and 10^16 cancels in every fraction that has one.
+-- The peaks that an efficacy counts are 1, so it is 683 · 10^16 over a constant, and 10^16 cancels in every fraction that has one.
 use mathlib.Core.Path.{_≡_, refl}
 use Prim.Native.Nat.{ℕ, _+_, _*_, _-_, _^_, _≤_}
 use native.Mathlib.Omega.{arith}

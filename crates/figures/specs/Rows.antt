@@ -1,6 +1,6 @@
 -- The bench figures P1 to P10 with the rules' own numbers, the illuminances and X, Y, Z worked again with the reference at
--- 555.017 nm, u′ and v′ beside x and y, research figures, and some of the project's own. Refusals have their numbers here too, so that the table
--- holds the names to them.
+-- 555.017 nm, u′ and v′ beside x and y, research figures, and some of the project's own. Refusals have their numbers here too, so
+-- that the table holds the names to them.
 use mathlib.Core.List.{List, [], _∷_, _++_}
 use Prim.Native.Nat.{ℕ, _-_}
 use lib.ListN.{replicate}

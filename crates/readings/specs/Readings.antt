@@ -68,7 +68,7 @@ mesopicMillilux k a s xs = nearest (683000 * 10 ^ 16 * mesopicWeighed k a s xs) 
 unfoldable pub mesopicOf : ℕ → ℕ → ℕ → List ℕ → Reading
 mesopicOf k a s xs = unless (mesopicCheck k a s xs) Reading.Refused (Reading.Value (mesopicMillilux k a s xs))
 
--- OBSERVER: neither 2 nor 10
+-- OBSERVER: neither 2 nor 10, where a colour is asked for
 abbrev pub colourCheck : ℕ → ℕ → ℕ → List ℕ → Check
 colourCheck o a s xs = require (isObserver o) OBSERVER (lightCheck a s xs)
 

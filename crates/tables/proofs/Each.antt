@@ -1,4 +1,4 @@
--- What is computed alike over the list of all curves is equal at each of them.
+-- What is computed alike over the list of all curves is equal at each of them: written by tools/tables.
 use mathlib.Core.Path.{_≡_, ap}
 use mathlib.Core.Bool.{true}
 use mathlib.Core.List.{List, map}

@@ -1,4 +1,4 @@
--- What is computed over each table: written by tools/tables from the source documents, and proved.
+-- What is computed over each table: written by tools/tables, and proved.
 use mathlib.Core.List.{List, [], _∷_}
 use Prim.Native.Nat.{ℕ}
 use Rattle.tables.specs.Units.{stretch, stretches}
@@ -67,7 +67,7 @@ litSum D65 VPrime = 10462969390358220200000
 litSum D65 VF = 11170759465880331282450
 litSum D65 VF10 = 11819363753161816257940
 
--- the units in which the code counts a curve's entries: x̄ below place 190, which is 550 nm, in thousands
+-- the units in which the code counts a curve's entries, stretch by stretch
 abbrev pub units : Curve → Units
 units XBar = stretches (stretch 190 1000) (stretch 375 10000) (stretch 471 10) 1
 units YBar = stretches (stretch 61 10) (stretch 361 10000) (stretch 459 10) 1

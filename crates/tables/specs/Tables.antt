@@ -1,4 +1,5 @@
--- The tables as the contracts read them, from 360 to 830 nm: written by tools/tables from the source documents.
+-- The tables as the contracts read them, from 360 to 830 nm: written by tools/tables from the source documents and, where said,
+-- from elsewhere.
 use mathlib.Core.List.{List, [], _∷_, _++_}
 use Prim.Native.Nat.{ℕ}
 use lib.ListN.{replicate}
@@ -312,7 +313,7 @@ table VPrime =
     ∷ 2413000 ∷ 2282000 ∷ 2159000 ∷ 2042000 ∷ 1932000 ∷ 1829000 ∷ 1731000 ∷ 1638000 ∷ 1551000 ∷ 1468000
     ∷ 1390000 ∷ 0 ∷ 0 ∷ 0 ∷ 0 ∷ 0 ∷ 0 ∷ 0 ∷ 0 ∷ 0
     ∷ replicate 41 0
--- V_F, the cone-fundamental curve of 2°, which is 0 below 390 nm, at 10^13 to one
+-- V_F, the cone-fundamental curve of 2°, 0 below 390 nm, from 504 nm on not from the source text, at 10^13 to one
 table VF =
     replicate 30 0 ++ 4146161000 ∷ 5028333000 ∷ 6084991000 ∷ 7344436000 ∷ 8837389000 ∷ 10596460000 ∷ 12655320000 ∷ 15047530000 ∷ 17804930000 ∷ 20955720000
     ∷ 24521940000 ∷ 28522160000 ∷ 32991150000 ∷ 37974660000 ∷ 43527680000 ∷ 49717170000 ∷ 56610140000 ∷ 64216150000 ∷ 72503120000 ∷ 81401730000
@@ -360,7 +361,7 @@ table VF =
     ∷ 12625560 ∷ 11907710 ∷ 11230310 ∷ 10591510 ∷ 9989507 ∷ 9422514 ∷ 8888804 ∷ 8386690 ∷ 7914539 ∷ 7470770
     ∷ 7053860
     ∷ []
--- V_F,10, that of 10°, which is 0 below 390 nm, at 10^13 to one
+-- V_F,10, the cone-fundamental curve of 10°, 0 below 390 nm, not from the source text, at 10^13 to one
 table VF10 =
     replicate 30 0 ++ 4076779000 ∷ 4977769000 ∷ 6064754000 ∷ 7370040000 ∷ 8929388000 ∷ 10781660000 ∷ 12968160000 ∷ 15531590000 ∷ 18514630000 ∷ 21957950000
     ∷ 25897750000 ∷ 30367990000 ∷ 35419260000 ∷ 41114220000 ∷ 47526180000 ∷ 54742070000 ∷ 62850340000 ∷ 71880680000 ∷ 81817860000 ∷ 92604170000

@@ -1,6 +1,5 @@
-// The tables as the code reads them, from 360 to 830 nm: written by tools/tables from the source documents. A table is built
-// anew where it is asked for; each has a function of its own, since one match over the numbers would look up every entry by
-// the curve.
+// The tables as the code reads them, from 360 to 830 nm: written by tools/tables. A table is built anew where it is asked for;
+// each has a function of its own, since one match over the numbers would look up every entry by the curve.
 use crate::Illuminant;
 use crate::units::Stretch;
 use crate::units::Units;
@@ -3453,7 +3452,7 @@ pub fn v_prime() -> [u64; 471]
     V_PRIME
 }
 
-// V_F, the cone-fundamental curve of 2°, which is 0 below 390 nm, at 10^13 to one, counted in the unit of each stretch.
+// V_F, the cone-fundamental curve of 2°, 0 below 390 nm, from 504 nm on not from the source text, at 10^13 to one, counted in the unit of each stretch.
 const V_F: [u64; 471] = [
     0,
     0,
@@ -3947,7 +3946,7 @@ pub fn v_f() -> [u64; 471]
     V_F
 }
 
-// V_F,10, that of 10°, which is 0 below 390 nm, at 10^13 to one, counted in the unit of each stretch.
+// V_F,10, the cone-fundamental curve of 10°, 0 below 390 nm, not from the source text, at 10^13 to one, counted in the unit of each stretch.
 const V_F_10: [u64; 471] = [
     0,
     0,

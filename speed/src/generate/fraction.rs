@@ -10,16 +10,22 @@ pub struct Fraction {
     pub denominator: u128,
 }
 
-/// One of a light's readings, with one of these observers, the second of them of a research figure, or this k.
-pub fn of_light(random: &mut Random, grid: &Grid, observers: [u32; 2], k: u32) -> Fraction {
-    let [observer, cone_observer] = observers;
-    let k = u128::from(k);
-    let functions = match observer {
+/// What a light's readings take besides the light: k, the observer of a colour, and that of a research figure.
+pub struct Settings {
+    pub k: u32,
+    pub observer: u32,
+    pub cone_observer: u32,
+}
+
+/// One of a light's readings, with the settings of each.
+pub fn of_light(random: &mut Random, grid: &Grid, settings: &Settings) -> Fraction {
+    let k = u128::from(settings.k);
+    let functions = match settings.observer {
         2 => [&tables::X, &tables::Y, &tables::Z],
         _ => [&tables::X10, &tables::Y10, &tables::Z10],
     };
     let (y, scotopic) = (&tables::Y, &tables::V_PRIME);
-    let cones = match cone_observer {
+    let cones = match settings.cone_observer {
         32 => &tables::V_F,
         _ => &tables::V_F10,
     };

@@ -164,7 +164,7 @@ fn inverse(a: u128, d: u128) -> Option<u128> {
 #[cfg(test)]
 mod tests {
     use super::*;
-    use crate::generate::fraction;
+    use crate::generate::fraction::{self, Settings};
 
     #[test]
     fn the_halves_of_readings_are_exact() {
@@ -172,8 +172,12 @@ mod tests {
         let mut found = 0;
         for _ in 0..200 {
             let grid = Grid::of_step(&mut random, 1);
-            let observers = [random.pick(&[2, 10]), random.pick(&[32, 40])];
-            let fraction = fraction::of_light(&mut random, &grid, observers, 500);
+            let settings = Settings {
+                k: 500,
+                observer: random.pick(&[2, 10]),
+                cone_observer: random.pick(&[32, 40]),
+            };
+            let fraction = fraction::of_light(&mut random, &grid, &settings);
             let Some(samples) = (0..TRIES).find_map(|_| half(&mut random, &fraction)) else {
                 continue;
             };

@@ -1,5 +1,6 @@
 //! Lights: a spectrum, the settings of its readings, and the room for its record.
 
+use super::fraction::Settings;
 use super::grid::{faulty_count, faulty_start, faulty_step, Grid};
 use super::random::Random;
 use super::rows::{self, LARGEST_SAMPLE};
@@ -46,7 +47,7 @@ impl Light {
         Light {
             k: turn as u32 % 1001,
             observer: 2,
-            cone_observer: 32,
+            cone_observer: [32, 40][turn % 2],
             start: 300,
             step: 1,
             samples: rows::longest(),
@@ -69,6 +70,11 @@ impl Light {
             0 => random.pick(&[0, 1, 100, 250, 500, 750, 999, 1000]),
             _ => random.within(0..=1000),
         };
+        let settings = Settings {
+            k,
+            observer,
+            cone_observer,
+        };
         let aim = random.below(6);
         let grid = match aim {
             0..3 => Grid::of_step(random, 1),
@@ -76,12 +82,12 @@ impl Light {
         };
         let aimed = match aim {
             0 => {
-                let fraction = fraction::of_light(random, &grid, [observer, cone_observer], k);
+                let fraction = fraction::of_light(random, &grid, &settings);
                 halves::reading(random, &fraction)
             }
             1 => halves::coordinate(random, &grid, observer),
             2 => {
-                let fraction = fraction::of_light(random, &grid, [observer, cone_observer], k);
+                let fraction = fraction::of_light(random, &grid, &settings);
                 Some(near::row(random, &fraction, LARGEST_SAMPLE))
             }
             _ => None,

@@ -80,8 +80,9 @@ fn checked_line(start: u32, step: u32, samples: &[u32]) -> Result<Table, Refusal
 }
 
 /// A sum with the efficacy of V, V10 or V', which is 683 over the value at 555.017 nm, since that at
-/// the peak is 1, or of a cone-fundamental curve, which has no peak factor. Weights at 10^13 to one times samples in millionths, over the thousandths of the
-/// reading, are at 10^16 to one as that value is.
+/// the peak is 1, or of a cone-fundamental curve, which has no peak factor. Weights at 10^13 to one
+/// times samples in millionths, over the thousandths of the reading, are at 10^16 to one as that
+/// value is.
 fn millilux(sum: u128, curve: &Table, step: u32) -> u32 {
     nearest(683 * sum, u128::from(step) * at_reference(curve))
 }

@@ -27,8 +27,8 @@ no-colour o none = record {
 
 returns : tie.Need-returns
 returns c = record {
-  no-colour-32 = no-colour 32 refl;
-  no-colour-40 = no-colour 40 refl;
+  no-colour-32 = no-colour _ refl;
+  no-colour-40 = no-colour _ refl;
   other = λ o a s xs p q. rw (ne-eqb o 32 p, ne-eqb o 40 q);
 }
 
