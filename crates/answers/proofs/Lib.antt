@@ -1,4 +1,3 @@
 -- Laws of answers that are worked from sums.
 pub mod Values
-pub mod Mixed
 pub mod FromSums

@@ -1,7 +1,7 @@
 -- Coordinates over one divisor: dark where it is 0, else each numerator's nearest. x and y are such, and so are u′ and v′.
 use mathlib.Core.Path.{_≡_, refl, sym}
 use mathlib.Core.Bool.{Bool, true, false, cond, not-eq-not}
-use mathlib.Core.List.{List, [], _∷_}
+use mathlib.Core.List.{List, [], _∷_, map}
 use Prim.Native.Nat.{ℕ, zero, suc, _+_, _*_, _≤_, _<_, zero-le}
 use native.Mathlib.Nat.{le-refl, le-trans, mul-le-mul-left}
 use native.Mathlib.Omega.{arith}
@@ -20,8 +20,7 @@ use Rattle.answers.specs.Said.{saidXy, saidUv, saidOnChart}
 
 -- each numerator over the divisor
 abbrev pub eachOver : List ℕ → ℕ → List ℕ
-eachOver [] d = []
-eachOver (n ∷ ns) d = inHundredThousandths n d ∷ eachOver ns d
+eachOver ns d = map (λ n. inHundredThousandths n d) ns
 
 -- these, or DARK where the divisor is 0
 unfoldable pub saidOver : List ℕ → ℕ → Said
@@ -39,9 +38,13 @@ each-most (n ∷ ns) [] d m i = absurd m
 each-most (n ∷ ns) (t ∷ ts) d m zero = nearest-bound t (100000 * n) d (m .0)
 each-most (n ∷ ns) (t ∷ ts) d m (suc i) = each-most ns ts d (m .1) i
 
+pub over-none : (ns : List ℕ) → saidOver ns 0 ≡ refusedWith (refusal DARK 0)
+unfolding saidOver
+over-none ns = refl
+
 module _ (ns : List ℕ) (d : ℕ) where
   -- coordinates that are not dark have a divisor
-  pub over-lit : (saidOver ns d .number ≡ DARK → ⊥) → 0 < d
+  over-lit : (saidOver ns d .number ≡ DARK → ⊥) → 0 < d
   unfolding saidOver
   over-lit light =
       let some = eqb-false d 0 (not-eq-not {a = eqb d 0} {b = false} .0 (λ p. light (rw p))) in
@@ -54,11 +57,6 @@ module _ (ns : List ℕ) (d : ℕ) where
   -- so they are given
   over-unless-dark : (saidOver ns d .number ≡ DARK → ⊥) → saidOver ns d .number ≡ 0
   over-unless-dark light = rw (over-given (over-lit light))
-
-  -- and dark ones have none
-  pub over-dark : saidOver ns d .number ≡ DARK → d ≡ 0
-  unfolding saidOver
-  over-dark e = eqb-true d 0 (not-eq-not {a = eqb d 0} {b = true} .0 (λ p. let h = rw p at e in omega arith))
 
   over-most : (ts : List ℕ) → AtMost ns ts d → (i : ℕ) → value (saidOver ns d) i ≤ getD ts i 0
   unfolding saidOver

@@ -1,48 +1,37 @@
--- The promises of mixing and of order at each reading: instances of the laws, by the linearity of W.
-use mathlib.Core.Path.{_≡_, refl, sym}
+-- What each reading is of an accepted light: linear sums over a number, or over another sum. The laws of mixed light and of the order
+-- of light are taken at these.
+use mathlib.Core.Path.{_≡_}
 use mathlib.Core.Bool.{true}
 use mathlib.Core.List.{List, [], _∷_}
 use Prim.Native.Nat.{ℕ, _+_, _*_, _-_, _≤_}
-use native.Mathlib.Nat.{add-comm}
 use native.Mathlib.Omega.{arith}
 use borrow.Author.Tests.{le-leb}
-use lib.ListN.{length, getD}
-use Rattle.grid.specs.declared.Check.the-variants.{Fine}
 use Rattle.grid.specs.Check.{isObserver, lightCheck}
-use Rattle.grid.specs.Refusals.{SAMPLE}
-use Rattle.grid.proofs.Limit.{within-fine}
-use Rattle.mixing.specs.Mixture.{mix, Linear}
-use Rattle.mixing.proofs.Mixture.{length-mix, getD-mix, linear-plus, linear-times}
+use Rattle.mixing.specs.Mixture.{Linear}
+use Rattle.mixing.proofs.Mixture.{linear-plus, linear-times}
 use Rattle.tables.specs.declared.Curve.{Curve}
 use Rattle.tables.specs.declared.Curve.the-variants.{YBar, VPrime}
 use Rattle.tables.specs.Curves.{weightOf}
 use Rattle.spectrum.proofs.Measured.{W-linear}
-use Rattle.grid.proofs.Light.{grid-fine}
 use Rattle.answers.specs.Said.{saidReading, saidXyz, saidXy, saidUv}
-use Rattle.curves.specs.Observer.{curvesOf}
 use Rattle.answers.specs.Worked.{uvDivisor}
-use Rattle.answers.proofs.Values.{saidOver, xy-is, uv-is}
-use Rattle.answers.proofs.Mixed.{AllLinear, each-unit, each-order, AllOver, numerators, said-between, said-one-dark}
+use Rattle.answers.proofs.Values.{xy-is, uv-is}
+use Rattle.curves.specs.Observer.{curvesOf}
 use Rattle.efficacy.specs.Divisors.{divisorOf}
 use Rattle.readings.specs.Readings.{weighed, illuminanceOf, mesopicWeighed, mesopicOf, xyzOf, xyOf, uvOf}
 use Rattle.readings.specs.Sums.{mesopicDivisor}
 use Rattle.readings.proofs.Worked.{illuminance-is, mesopic-is, xyz-is}
 use Rattle.readings.proofs.Small.{millilux-fits, mesopic-fits}
-use Rattle.light_promises.specs.Lights.{Answer, Mixable, OneUnit, InOrder, BothLit, OneDark}
+use Rattle.light_promises.specs.Lights.{Answer, InOrder}
+use Rattle.light_promises.proofs.Sums.{Sums, ordered}
+use Rattle.light_promises.proofs.Over.{Over}
 
-pub mixture-accepted : (a s : ℕ) (xs ys : List ℕ) → Mixable a s xs ys → lightCheck a s (mix xs ys) ≡ Fine
-unfolding lightCheck
-mixture-accepted a s xs ys m =
-    rw (length-mix (length xs) xs ys refl (sym (m .one-grid)), grid-fine a s xs (m .first)) (within-fine SAMPLE 1000000 0 (mix xs ys) (m .within))
+-- of accepted lights, on any grid
+abbrev pub LightSums : Answer → Type 0
+LightSums answer = (a s : ℕ) → Sums (lightCheck a s) (answer a s)
 
--- mixed the other way round, the samples are the same
-swapped : (a s : ℕ) (xs ys : List ℕ) → Mixable a s xs ys → Mixable a s ys xs
-swapped a s xs ys m = record {
-  first = m .second;
-  second = m .first;
-  one-grid = sym (m .one-grid);
-  within = λ k. rw (getD-mix k ys xs (sym (m .one-grid)), add-comm (getD ys k 0) (getD xs k 0)) (rw (getD-mix k xs ys (m .one-grid)) at (m .within k));
-}
+abbrev pub LightOver : Answer → Type 0
+LightOver answer = (a s : ℕ) → Over (lightCheck a s) (answer a s)
 
 curve-linear : (n : ℕ) (c : Curve) (a s : ℕ) → Linear n (λ xs. weighed c a s xs)
 curve-linear n c a s = W-linear n (weightOf c) a s
@@ -50,145 +39,73 @@ curve-linear n c a s = W-linear n (weightOf c) a s
 times-linear : (n f : ℕ) (c : Curve) (a s : ℕ) → Linear n (λ xs. f * weighed c a s xs)
 times-linear n f c a s = linear-times n f (λ xs. weighed c a s xs) (curve-linear n c a s)
 
-module _ (c : Curve) where
-  pub illuminance-unit : OneUnit (λ a s xs. saidReading (illuminanceOf c a s xs))
-  illuminance-unit a s xs ys m =
-      rw (illuminance-is a s xs c, illuminance-is a s ys c, illuminance-is a s (mix xs ys) c, m .first, m .second, mixture-accepted a s xs ys m)
-      (each-unit (length xs) (s * divisorOf c) (millilux-fits a s xs (m .first) c .divisor) xs ys refl (sym (m .one-grid))
-      ((λ zs. 683 * weighed c a s zs) ∷ []) (times-linear (length xs) 683 c a s, tt))
+pub illuminance-sums : (c : Curve) → LightSums (λ a s xs. saidReading (illuminanceOf c a s xs))
+illuminance-sums c a s = record {
+  sums = (λ xs. 683 * weighed c a s xs) ∷ [];
+  divisor = s * divisorOf c;
+  linear = λ n. (times-linear n 683 c a s, tt);
+  some = λ xs fine. millilux-fits a s xs fine c .divisor;
+  is = λ xs fine. rw (illuminance-is a s xs c, fine);
+}
 
-  pub illuminance-order : InOrder (λ a s xs. saidReading (illuminanceOf c a s xs))
-  illuminance-order a s xs ys p q l b =
-      rw (illuminance-is a s xs c, illuminance-is a s ys c, p, q)
-      (each-order (length xs) (s * divisorOf c) (millilux-fits a s xs p c .divisor) xs ys refl (sym l)
-      ((λ zs. 683 * weighed c a s zs) ∷ []) (times-linear (length xs) 683 c a s, tt) b)
-
-module _ (k : ℕ) (few : k ≤ 1000) where
-  mesopic-linear : (n a s : ℕ) → Linear n (λ xs. 683 * mesopicWeighed k a s xs)
-  mesopic-linear n a s =
-      linear-times n 683 (λ xs. k * weighed YBar a s xs + (1000 - k) * weighed VPrime a s xs)
-      (linear-plus n (λ xs. k * weighed YBar a s xs) (λ xs. (1000 - k) * weighed VPrime a s xs)
-      (times-linear n k YBar a s)
-      (times-linear n (1000 - k) VPrime a s))
-
-  pub mesopic-unit : OneUnit (λ a s xs. saidReading (mesopicOf k a s xs))
-  mesopic-unit a s xs ys m =
-      rw (
-        mesopic-is a s xs k,
-        mesopic-is a s ys k,
-        mesopic-is a s (mix xs ys) k,
-        le-leb k 1000 few,
-        m .first,
-        m .second,
-        mixture-accepted a s xs ys m,
-      )
-      (each-unit (length xs) (mesopicDivisor k s) (mesopic-fits a s xs (m .first) k few .divisor) xs ys refl (sym (m .one-grid))
-      ((λ zs. 683 * mesopicWeighed k a s zs) ∷ []) (mesopic-linear (length xs) a s, tt))
-
-  pub mesopic-order : InOrder (λ a s xs. saidReading (mesopicOf k a s xs))
-  mesopic-order a s xs ys p q l b =
-      rw (mesopic-is a s xs k, mesopic-is a s ys k, le-leb k 1000 few, p, q)
-      (each-order (length xs) (mesopicDivisor k s) (mesopic-fits a s xs p k few .divisor) xs ys refl (sym l)
-      ((λ zs. 683 * mesopicWeighed k a s zs) ∷ []) (mesopic-linear (length xs) a s, tt) b)
+pub mesopic-sums : (k : ℕ) → k ≤ 1000 → LightSums (λ a s xs. saidReading (mesopicOf k a s xs))
+mesopic-sums k few a s = record {
+  sums = (λ xs. 683 * mesopicWeighed k a s xs) ∷ [];
+  divisor = mesopicDivisor k s;
+  linear = λ n. (
+    linear-times n 683 (λ xs. mesopicWeighed k a s xs)
+        (linear-plus n (λ xs. k * weighed YBar a s xs) (λ xs. (1000 - k) * weighed VPrime a s xs) (times-linear n k YBar a s)
+        (times-linear n (1000 - k) VPrime a s)),
+    tt,
+  );
+  some = λ xs fine. mesopic-fits a s xs fine k few .divisor;
+  is = λ xs fine. rw (mesopic-is a s xs k, le-leb k 1000 few, fine);
+}
 
 module _ (o : ℕ) (t : isObserver o ≡ true) where
-  abbrev colours : ℕ → ℕ → List (List ℕ → ℕ)
-  colours a s = by (curvesOf o .x) ∷ by (curvesOf o .y) ∷ by (curvesOf o .z) ∷ []
-    where
-      by : Curve → List ℕ → ℕ
-      by c zs = 683 * weighed c a s zs
+  abbrev x : Curve
+  x = curvesOf o .x
 
-  colours-linear : (n a s : ℕ) → AllLinear n (colours a s)
-  colours-linear n a s =
-      (times-linear n 683 (curvesOf o .x) a s, (times-linear n 683 (curvesOf o .y) a s, (times-linear n 683 (curvesOf o .z) a s, tt)))
+  abbrev y : Curve
+  y = curvesOf o .y
 
-  pub xyz-mixed : OneUnit (λ a s xs. saidXyz (xyzOf o a s xs))
-  xyz-mixed a s xs ys m =
-      let y = curvesOf o .y in
-      rw (xyz-is a s xs o, xyz-is a s ys o, xyz-is a s (mix xs ys) o, t, m .first, m .second, mixture-accepted a s xs ys m)
-      (each-unit (length xs) (s * divisorOf y) (millilux-fits a s xs (m .first) y .divisor) xs ys refl (sym (m .one-grid))
-      (colours a s) (colours-linear (length xs) a s))
+  abbrev z : Curve
+  z = curvesOf o .z
 
-  pub xyz-ordered : InOrder (λ a s xs. saidXyz (xyzOf o a s xs))
-  xyz-ordered a s xs ys p q l b =
-      let y = curvesOf o .y in
-      rw (xyz-is a s xs o, xyz-is a s ys o, t, p, q)
-      (each-order (length xs) (s * divisorOf y) (millilux-fits a s xs p y .divisor) xs ys refl (sym l)
-      (colours a s) (colours-linear (length xs) a s) b)
+  pub xyz-sums : LightSums (λ a s xs. saidXyz (xyzOf o a s xs))
+  xyz-sums a s = record {
+    sums = (λ xs. 683 * weighed x a s xs) ∷ (λ xs. 683 * weighed y a s xs) ∷ (λ xs. 683 * weighed z a s xs) ∷ [];
+    divisor = s * divisorOf y;
+    linear = λ n. (times-linear n 683 x a s, (times-linear n 683 y a s, (times-linear n 683 z a s, tt)));
+    some = λ xs fine. millilux-fits a s xs fine y .divisor;
+    is = λ xs fine. rw (xyz-is a s xs o, t, fine);
+  }
 
--- an answer that is, of accepted lights, some numerators over one divisor, all of them linear
-record Over (answer : Answer) : Type 0 where
-  divisor : ℕ → ℕ → List ℕ → ℕ
-  parts : ℕ → ℕ → List (List ℕ → ℕ)
-  divisor-linear : (n a s : ℕ) → Linear n (divisor a s)
-  all-over : (n a s : ℕ) → AllOver n (divisor a s) (parts a s)
-  is : (a s : ℕ) (xs : List ℕ) → lightCheck a s xs ≡ Fine → answer a s xs ≡ saidOver (numerators (parts a s) xs) (divisor a s xs)
-
-module _ (answer : Answer) (over : Over answer) where
-  both-lit : BothLit answer
-  both-lit a s xs ys m e f =
-      let n = length xs in
-      let first = over .is a s xs (m .first) in
-      let second = over .is a s ys (m .second) in
-      rw (first, second, over .is a s (mix xs ys) (mixture-accepted a s xs ys m))
-      (said-between n (over .divisor a s) (over .divisor-linear n a s) xs ys refl (sym (m .one-grid)) (over .parts a s) (over .all-over n a s)
-      (rw first at e) (rw second at f))
-
-  one-is-dark : OneDark answer
-  one-is-dark a s xs ys m e f =
-      let n = length xs in
-      let second = over .is a s ys (m .second) in
-      rw (
-        second,
-        over .is a s (mix xs ys) (mixture-accepted a s xs ys m),
-        over .is a s (mix ys xs) (mixture-accepted a s ys xs (swapped a s xs ys m)),
-      )
-      (said-one-dark n (over .divisor a s) (over .divisor-linear n a s) xs ys refl (sym (m .one-grid)) (over .parts a s) (over .all-over n a s)
-      (rw (over .is a s xs (m .first)) at e) (rw second at f))
-
-module _ (o : ℕ) (t : isObserver o ≡ true) where
-  xy-over : Over (λ a s xs. saidXy (xyOf o a s xs))
+  pub xy-over : LightOver (λ a s xs. saidXy (xyOf o a s xs))
   unfolding xyOf
-  xy-over =
-      let x = curvesOf o .x in
-      let y = curvesOf o .y in
-      let z = curvesOf o .z in
-      record {
-        divisor = λ a s zs. weighed x a s zs + weighed y a s zs + weighed z a s zs;
-        parts = λ a s. (λ zs. weighed x a s zs) ∷ (λ zs. weighed y a s zs) ∷ [];
-        divisor-linear = λ n a s.
-            linear-plus n (λ zs. weighed x a s zs + weighed y a s zs) (λ zs. weighed z a s zs)
-            (linear-plus n (λ zs. weighed x a s zs) (λ zs. weighed y a s zs) (curve-linear n x a s) (curve-linear n y a s))
-            (curve-linear n z a s);
-        all-over = λ n a s. ((curve-linear n x a s, (λ zs e. omega arith)), ((curve-linear n y a s, (λ zs e. omega arith)), tt));
-        is = λ a s xs fine. rw (t, fine) (xy-is _ _ _);
-      }
+  xy-over a s = record {
+    parts = (λ xs. weighed x a s xs) ∷ (λ xs. weighed y a s xs) ∷ [];
+    divisor = λ xs. weighed x a s xs + weighed y a s xs + weighed z a s xs;
+    linear = λ n.
+        linear-plus n (λ xs. weighed x a s xs + weighed y a s xs) (λ xs. weighed z a s xs)
+        (linear-plus n (λ xs. weighed x a s xs) (λ xs. weighed y a s xs) (curve-linear n x a s) (curve-linear n y a s))
+        (curve-linear n z a s);
+    all-parts = λ n. ((curve-linear n x a s, λ xs e. omega arith), ((curve-linear n y a s, λ xs e. omega arith), tt));
+    is = λ xs fine. rw (t, fine) (xy-is _ _ _);
+  }
 
-  uv-over : Over (λ a s xs. saidUv (uvOf o a s xs))
+  pub uv-over : LightOver (λ a s xs. saidUv (uvOf o a s xs))
   unfolding uvOf
-  uv-over =
-      let x = curvesOf o .x in
-      let y = curvesOf o .y in
-      let z = curvesOf o .z in
-      record {
-        divisor = λ a s zs. uvDivisor (weighed x a s zs) (weighed y a s zs) (weighed z a s zs);
-        parts = λ a s. (λ zs. 4 * weighed x a s zs) ∷ (λ zs. 9 * weighed y a s zs) ∷ [];
-        divisor-linear = λ n a s.
-            linear-plus n (λ zs. weighed x a s zs + 15 * weighed y a s zs) (λ zs. 3 * weighed z a s zs)
-            (linear-plus n (λ zs. weighed x a s zs) (λ zs. 15 * weighed y a s zs) (curve-linear n x a s) (times-linear n 15 y a s))
-            (times-linear n 3 z a s);
-        all-over = λ n a s. ((times-linear n 4 x a s, (λ zs e. omega arith)), ((times-linear n 9 y a s, (λ zs e. omega arith)), tt));
-        is = λ a s xs fine. rw (t, fine) (uv-is _ _ _);
-      }
+  uv-over a s = record {
+    parts = (λ xs. 4 * weighed x a s xs) ∷ (λ xs. 9 * weighed y a s xs) ∷ [];
+    divisor = λ xs. uvDivisor (weighed x a s xs) (weighed y a s xs) (weighed z a s xs);
+    linear = λ n.
+        linear-plus n (λ xs. weighed x a s xs + 15 * weighed y a s xs) (λ xs. 3 * weighed z a s xs)
+        (linear-plus n (λ xs. weighed x a s xs) (λ xs. 15 * weighed y a s xs) (curve-linear n x a s) (times-linear n 15 y a s))
+        (times-linear n 3 z a s);
+    all-parts = λ n. ((times-linear n 4 x a s, λ xs e. omega arith), ((times-linear n 9 y a s, λ xs e. omega arith), tt));
+    is = λ xs fine. rw (t, fine) (uv-is _ _ _);
+  }
 
-  pub between : BothLit (λ a s xs. saidXy (xyOf o a s xs))
-  between = both-lit _ xy-over
-
-  pub one-dark : OneDark (λ a s xs. saidXy (xyOf o a s xs))
-  one-dark = one-is-dark _ xy-over
-
-  pub uv-between : BothLit (λ a s xs. saidUv (uvOf o a s xs))
-  uv-between = both-lit _ uv-over
-
-  pub uv-one-dark : OneDark (λ a s xs. saidUv (uvOf o a s xs))
-  uv-one-dark = one-is-dark _ uv-over
+pub in-order : {answer : Answer} → LightSums answer → InOrder answer
+in-order sums a s xs ys p q same below i = ordered (sums a s) i xs ys p q same below

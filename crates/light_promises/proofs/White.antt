@@ -21,7 +21,6 @@ use Rattle.spectrum.specs.Line.{W}
 use Rattle.spectrum.proofs.Measured.{W-linear}
 use Rattle.curves.specs.Observer.{curvesOf}
 use Rattle.answers.specs.Said.{saidXy, saidUv, saidChart}
-use Rattle.answers.proofs.Mixed.{each-order}
 use Rattle.panel.specs.Panel.{illuminantOf, settingCheck, panelCheck, whiteSum, panelXyzOf, panelXyOf, panelUvOf, panelChartOf}
 use Rattle.panel.specs.Figures.{panelFiguresOf, saidPanelFigures}
 use Rattle.panel.proofs.Accepted.{setting-grid, on-grid, within}
@@ -29,6 +28,7 @@ use Rattle.panel.proofs.Sized.{white-lit, divisor-some}
 use Rattle.light_promises.specs.Range.{Coordinates}
 use Rattle.light_promises.specs.Panels.{saidPanelXyz, whiteXyz}
 use Rattle.light_promises.proofs.Range.{coordinates, three}
+use Rattle.light_promises.proofs.Sums.{Sums, ordered}
 use Rattle.light_promises.proofs.Constant.{panel-accepted, nearest-constant, no-more}
 
 pub is-given : (o i a s : ℕ) (rs : List ℕ) → panelCheck o i a s rs ≡ Fine → saidPanelXyz o i a s rs .number ≡ 0
@@ -112,17 +112,22 @@ module _ (o i : ℕ) where
       rw (sym (mul-assoc 10 r (whiteSum o i))) (nearest-whole (10 * r) (whiteSum o i) (white-lit o i)) in
       (rw is, rw is (xyz-constant a s n r fine (curvesOf o .y) ∙ y))
 
-module _ (o i a s n : ℕ) where
-  ten-linear : (c : Curve) → Linear n (λ rs. 10 * W (litBy (illuminantOf i) c) a s rs)
-  ten-linear c = linear-times n 10 (λ rs. W (litBy (illuminantOf i) c) a s rs) (W-linear n (litBy (illuminantOf i) c) a s)
+-- what X, Y, Z are of an accepted panel
+panel-sums : (o i a s : ℕ) → Sums (panelCheck o i a s) (saidPanelXyz o i a s)
+unfolding panelXyzOf
+panel-sums o i a s =
+    let by : Curve → List ℕ → ℕ = (λ c rs. 10 * W (litBy (illuminantOf i) c) a s rs) in
+    let linear : (n : ℕ) (c : Curve) → Linear n (by c) =
+    (λ n c. linear-times n 10 (λ rs. W (litBy (illuminantOf i) c) a s rs) (W-linear n (litBy (illuminantOf i) c) a s)) in
+    record {
+      sums = by (curvesOf o .x) ∷ by (curvesOf o .y) ∷ by (curvesOf o .z) ∷ [];
+      divisor = s * whiteSum o i;
+      linear = λ n. (linear n (curvesOf o .x), (linear n (curvesOf o .y), (linear n (curvesOf o .z), tt)));
+      some = λ rs fine. divisor-some o i a s rs fine;
+      is = λ rs fine. rw fine;
+    }
 
 pub order :
     (o i a s : ℕ) (rs qs : List ℕ) → panelCheck o i a s rs ≡ Fine → panelCheck o i a s qs ≡ Fine → length rs ≡ length qs →
     Below rs qs → (k : ℕ) → value (saidPanelXyz o i a s rs) k ≤ value (saidPanelXyz o i a s qs) k
-unfolding panelXyzOf
-order o i a s rs qs p q l b =
-    let n = length rs in
-    let linear = ten-linear o i a s n in
-    rw (p, q)
-    (each-order n (s * whiteSum o i) (divisor-some o i a s rs p) rs qs refl (sym l) (_ ∷ _ ∷ _ ∷ [])
-    (linear (curvesOf o .x), (linear (curvesOf o .y), (linear (curvesOf o .z), tt))) b)
+order o i a s rs qs p q same below k = ordered (panel-sums o i a s) k rs qs p q same below

@@ -3,13 +3,13 @@
 use mathlib.Core.Path.{_≡_}
 use mathlib.Core.Bool.{true}
 use mathlib.Core.List.{List, [], _∷_, _++_}
-use Prim.Native.Nat.{ℕ, _+_, _*_, _≤_}
+use Prim.Native.Nat.{ℕ, _+_, _*_, _≤_, min, max}
 use lib.ListN.{length, replicate}
 use Rattle.grid.specs.Refusals.{DARK}
 use Rattle.grid.specs.declared.Check.the-variants.{Fine}
 use Rattle.grid.specs.Check.{Within, refusal, isObserver, gridCheck, lightCheck}
 use Rattle.mixing.specs.Mixture.{mix, Below}
-use Rattle.mixing.specs.Promises.{Between, Differ}
+use Rattle.mixing.specs.Promises.{Differ}
 use Rattle.tables.specs.declared.Curve.{Curve}
 use Rattle.tables.specs.declared.Curve.the-variants.{YBar, YBar10, VPrime, VF, VF10}
 use Rattle.tables.specs.Curves.{weightOf}
@@ -19,6 +19,11 @@ use Rattle.answers.specs.Said.{saidReading, saidXyz, saidXy, saidUv, saidChart}
 use Rattle.curves.specs.Observer.{curvesOf}
 use Rattle.readings.specs.Readings.{photopicOf, scotopicOf, photopic10Of, researchOf, mesopicOf, xyzOf, xyOf, uvOf, chartOf, figuresOf}
 use Rattle.readings.specs.Figures.{saidFigures}
+
+-- m lies between a and b, ends included
+pub record Between (a b m : ℕ) : Type 0 where
+  pub low : min a b ≤ m
+  pub high : m ≤ max a b
 
 -- an answer by start, step and samples, as the rules' number, place and values
 abbrev pub Answer : Type 0

@@ -1,14 +1,14 @@
 -- Where numerator and divisor are linear, the nearest quotient of a mixture lies between those of its parts that are not dark.
-use mathlib.Core.Path.{_≡_, ap, ap₂}
+use mathlib.Core.Path.{_≡_, ap}
 use mathlib.Core.List.{List, [], _∷_}
-use Prim.Native.Nat.{ℕ, zero, suc, _+_, _*_, _≤_, _<_, min, max}
+use Prim.Native.Nat.{ℕ, zero, suc, _+_, _*_, _≤_, _<_}
 use native.Mathlib.Omega.{arith}
-use lib.ListN.{length, replicate}
+use lib.ListN.{replicate}
 use Rattle.mixing.specs.Nearest.{nearest}
-use Rattle.mixing.specs.Mixture.{mix, mixture, Each, Rows, Linear}
-use Rattle.mixing.specs.Promises.{Between, Coordinate}
+use Rattle.mixing.specs.Mixture.{mixture, Each, Rows, Linear}
+use Rattle.mixing.specs.Promises.{Coordinate}
 use Rattle.mixing.proofs.Nearest.{le-nearest, nearest-lt}
-use Rattle.mixing.proofs.Mixture.{mix-zeros, linear-zeros, linear-mixture}
+use Rattle.mixing.proofs.Mixture.{linear-zeros, linear-mixture}
 
 -- a is at most the nearest of n / d, as products say it, and so where d is 0
 low : (a n d : ℕ) → (0 < d → a ≤ nearest n d) → a * (2 * d) ≤ 2 * n + d
@@ -69,28 +69,5 @@ module _ (n : ℕ) (N D : List ℕ → ℕ) (num : Linear n N) (den : Linear n D
       nearest-lt (N (mixture n xss)) (D (mixture n xss)) pos (b + 1) .1 (sum-high b xss r h pos) in
       omega arith
 
-  two :
-      (xs ys : List ℕ) → length xs ≡ n → length ys ≡ n → 0 < D xs → 0 < D ys →
-      Between (coordinate xs) (coordinate ys) (coordinate (mix xs ys))
-  unfolding mixture
-  two xs ys p q pos pos′ =
-      let both : List (List ℕ) = xs ∷ ys ∷ [] in
-      let e : mixture n both ≡ mix xs ys = ap (λ (zs : List ℕ). mix xs zs) (mix-zeros n ys q) in
-      let f : D (mix xs ys) ≡ D xs + D ys = den .adds xs ys p q in
-      let lit : 0 < D (mixture n both) = rw e (omega arith) in
-      record {
-        low = rw e at (least (min (coordinate xs) (coordinate ys)) both (p, (q, tt)) ((λ h. omega arith), ((λ h. omega arith), tt)) lit);
-        high = rw e at (greatest (max (coordinate xs) (coordinate ys)) both (p, (q, tt)) ((λ h. omega arith), ((λ h. omega arith), tt)) lit);
-      }
-
-  one-dark :
-      (xs ys : List ℕ) → length xs ≡ n → length ys ≡ n → D xs ≡ 0 → 0 < D ys →
-      (coordinate (mix xs ys) ≡ coordinate ys) × (coordinate (mix ys xs) ≡ coordinate ys)
-  one-dark xs ys p q z pos =
-      let none = dark xs z in (
-        ap₂ nearest (omega (arith, num .adds xs ys p q)) (omega (arith, den .adds xs ys p q)),
-        ap₂ nearest (omega (arith, num .adds ys xs q p)) (omega (arith, den .adds ys xs q p)),
-      )
-
   pub between : Coordinate n D coordinate
-  between = record { least = least; greatest = greatest; two = two; one-dark = one-dark }
+  between = record { least = least; greatest = greatest }

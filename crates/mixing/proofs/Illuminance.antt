@@ -1,16 +1,15 @@
 -- Where the numerator is linear and the divisor fixed, the nearest quotient keeps to half a unit a row, and to the order.
-use mathlib.Core.Path.{_≡_, ap}
 use mathlib.Core.List.{List, [], _∷_, map}
 use Prim.Native.Nat.{ℕ, _+_, _*_, _/_, _≤_, _<_}
 use native.Mathlib.Nat.{le-refl, lt-of-mul-lt-mul-right}
 use native.Mathlib.Omega.{arith}
-use lib.ListN.{length, replicate}
+use lib.ListN.{length}
 use Rattle.mixing.specs.Nearest.{nearest}
 use Rattle.mixing.specs.Sum.{sumOf}
-use Rattle.mixing.specs.Mixture.{mix, mixture, Rows, Linear}
+use Rattle.mixing.specs.Mixture.{mixture, Rows, Linear}
 use Rattle.mixing.specs.Promises.{Differ, Illuminance}
 use Rattle.mixing.proofs.Nearest.{le-nearest, nearest-lt}
-use Rattle.mixing.proofs.Mixture.{mix-zeros, linear-order, linear-zeros, linear-mixture}
+use Rattle.mixing.proofs.Mixture.{linear-order, linear-zeros, linear-mixture}
 
 module _ (n d : ℕ) (F : List ℕ → ℕ) (lin : Linear n F) (pos : 0 < d) where
   abbrev reading : List ℕ → ℕ
@@ -36,29 +35,21 @@ module _ (n d : ℕ) (F : List ℕ → ℕ) (lin : Linear n F) (pos : 0 < d) whe
   sum-low [] r = omega (arith, linear-zeros n F lin)
   sum-low (xs ∷ xss) r = omega (arith, reading-low xs, sum-low xss (r .1), linear-mixture n F lin xs xss r)
 
-  many :
+  -- so twice the mixture's reading and twice the sum of readings differ by at most one a row
+  twice :
       (xs : List ℕ) (xss : List (List ℕ)) → Rows n (xs ∷ xss) →
-      Differ (length (xs ∷ xss) / 2) (reading (mixture n (xs ∷ xss))) (sumOf (map reading (xs ∷ xss)))
-  many xs xss r =
-      let all : List (List ℕ) = xs ∷ xss in
-      let q : ℕ = reading (mixture n all) in
-      let s : ℕ = sumOf (map reading all) in
-      let k : ℕ = length all in
-      let above : 2 * q < 2 * s + k + 1 = lt-of-mul-lt-mul-right d (omega (arith, reading-high (mixture n all), sum-low all r)) in
-      let below : 2 * s < 2 * q + k + 1 = lt-of-mul-lt-mul-right d (omega (arith, reading-low (mixture n all), sum-high all r)) in
-      record { above = omega arith; below = omega arith }
-
-  two : (xs ys : List ℕ) → length xs ≡ n → length ys ≡ n → Differ 1 (reading (mix xs ys)) (reading xs + reading ys)
-  unfolding sumOf mixture
-  two xs ys p q =
-      let w : Differ 1 (reading (mix xs (mix ys (replicate n 0)))) (reading xs + (reading ys + 0)) = many xs (ys ∷ []) (p, (q, tt)) in
-      let e : reading (mix xs (mix ys (replicate n 0))) ≡ reading (mix xs ys) =
-      ap (λ (zs : List ℕ). reading (mix xs zs)) (mix-zeros n ys q) in
-      record { above = omega arith; below = omega arith }
+      let all = xs ∷ xss in
+      let q = reading (mixture n all) in
+      let s = sumOf (map reading all) in
+      (2 * q < 2 * s + length all + 1) × (2 * s < 2 * q + length all + 1)
+  twice xs xss r =
+      let all : List (List ℕ) = xs ∷ xss in (
+        lt-of-mul-lt-mul-right d (omega (arith, reading-high (mixture n all), sum-low all r)),
+        lt-of-mul-lt-mul-right d (omega (arith, reading-low (mixture n all), sum-high all r)),
+      )
 
   pub illuminance : Illuminance n reading
   illuminance = record {
-    many = many;
-    two = two;
+    many = λ xs xss r. let t = twice xs xss r in record { above = omega arith; below = omega arith };
     order = λ xs ys p q b. le-nearest (F ys) d pos (reading xs) .1 (omega (arith, reading-high xs, linear-order n F lin xs ys p q b));
   }

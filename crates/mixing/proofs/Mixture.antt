@@ -17,7 +17,7 @@ length-mix n (x ∷ xs) [] p q = q
 length-mix zero (x ∷ xs) (y ∷ ys) p q = absurd (omega arith)
 length-mix (suc n) (x ∷ xs) (y ∷ ys) p q = ap suc (length-mix n xs ys (omega arith) (omega arith))
 
-length-mixture : (n : ℕ) (xss : List (List ℕ)) → Rows n xss → length (mixture n xss) ≡ n
+pub length-mixture : (n : ℕ) (xss : List (List ℕ)) → Rows n xss → length (mixture n xss) ≡ n
 unfolding mixture
 length-mixture n [] r = length-replicate n 0
 length-mixture n (xs ∷ xss) r = length-mix n xs (mixture n xss) (r .0) (length-mixture n xss (r .1))

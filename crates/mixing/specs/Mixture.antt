@@ -15,10 +15,10 @@ unfoldable pub mixture : ℕ → List (List ℕ) → List ℕ
 mixture n [] = replicate n 0
 mixture n (xs ∷ xss) = mix xs (mixture n xss)
 
--- what P says holds of each row
-abbrev pub Each : (List ℕ → Type 0) → List (List ℕ) → Type 0
+-- what P says holds of each
+abbrev pub Each : {A : Type 0} → (A → Type 0) → List A → Type 0
 Each P [] = Unit {0}
-Each P (xs ∷ xss) = P xs × Each P xss
+Each P (x ∷ xs) = P x × Each P xs
 
 -- each row has n samples
 abbrev pub Rows : ℕ → List (List ℕ) → Type 0

@@ -1,0 +1,37 @@
+-- Several sums of a row, and the one at a place; and rows that pass a check, of which two answers are one.
+use mathlib.Core.Path.{_≡_, refl, sym, ap₂}
+use mathlib.Core.List.{List, [], _∷_, map}
+use Prim.Native.Nat.{ℕ, zero, suc}
+use lib.ListN.{getD}
+use Rattle.grid.specs.declared.Check.{Check}
+use Rattle.grid.specs.declared.Check.the-variants.{Fine}
+use Rattle.mixing.specs.Mixture.{Each, Linear}
+
+-- what each sum is of a row
+abbrev pub sumsOf : List (List ℕ → ℕ) → List ℕ → List ℕ
+sumsOf Fs xs = map (λ F. F xs) Fs
+
+-- past the last sum stands the one that is always 0
+abbrev pub sumAt : List (List ℕ → ℕ) → ℕ → List ℕ → ℕ
+sumAt Fs i = getD Fs i (λ xs. 0)
+
+pub none-linear : (n : ℕ) → Linear n (λ xs. 0)
+none-linear n = record { adds = λ xs ys p q. refl }
+
+-- what holds of that one and of each holds at every place
+pub each-at : (P : (List ℕ → ℕ) → Type 0) → P (λ xs. 0) → (Fs : List (List ℕ → ℕ)) → Each P Fs → (i : ℕ) → P (sumAt Fs i)
+each-at P none [] each i = none
+each-at P none (F ∷ Fs) each zero = each .0
+each-at P none (F ∷ Fs) each (suc i) = each-at P none Fs (each .1) i
+
+pub value-at :
+    (f : ℕ → ℕ) → f 0 ≡ 0 → (Fs : List (List ℕ → ℕ)) (xs : List ℕ) (i : ℕ) → getD (map f (sumsOf Fs xs)) i 0 ≡ f (sumAt Fs i xs)
+value-at f none [] xs i = sym none
+value-at f none (F ∷ Fs) xs zero = refl
+value-at f none (F ∷ Fs) xs (suc i) = value-at f none Fs xs i
+
+pub map-passing :
+    {A : Type 0} {check : List ℕ → Check} {f g : List ℕ → A} → ((xs : List ℕ) → check xs ≡ Fine → f xs ≡ g xs) →
+    (xss : List (List ℕ)) → Each (λ xs. check xs ≡ Fine) xss → map f xss ≡ map g xss
+map-passing h [] e = refl
+map-passing {A} h (xs ∷ xss) e = ap₂ (λ (x : A) (ys : List A). x ∷ ys) (h xs (e .0)) (map-passing h xss (e .1))

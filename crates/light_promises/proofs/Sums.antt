@@ -1,0 +1,59 @@
+-- The law of mixed light where the divisor is fixed: over any check, an answer whose values are linear sums over one number keeps to
+-- half a unit a row, and to the order.
+use mathlib.Core.Path.{_≡_, refl, _∙_, sym, ap}
+use mathlib.Core.List.{List, [], _∷_, map, map-map}
+use Prim.Native.Nat.{ℕ, _/_, _≤_, _<_}
+use native.Mathlib.Omega.{arith}
+use lib.ListN.{length}
+use Rattle.grid.specs.declared.Check.{Check}
+use Rattle.grid.specs.declared.Check.the-variants.{Fine}
+use Rattle.grid.specs.Said.{Said, value, given}
+use Rattle.mixing.specs.Sum.{sumOf}
+use Rattle.mixing.specs.Nearest.{nearest}
+use Rattle.mixing.specs.Mixture.{mixture, Each, Rows, Below, Linear}
+use Rattle.mixing.specs.Promises.{Differ}
+use Rattle.mixing.proofs.Nearest.{nearest-none}
+use Rattle.mixing.proofs.Illuminance.{illuminance}
+use Rattle.light_promises.specs.Strings.{valuesAt}
+use Rattle.light_promises.proofs.SumAt.{sumsOf, sumAt, none-linear, each-at, value-at, map-passing}
+
+-- an answer that is, of rows that pass a check, the nearest of linear sums over one number
+pub record Sums (check : List ℕ → Check) (answer : List ℕ → Said) : Type 0 where
+  pub sums : List (List ℕ → ℕ)
+  pub divisor : ℕ
+  pub linear : (n : ℕ) → Each (λ F. Linear n F) sums
+  pub some : (xs : List ℕ) → check xs ≡ Fine → 0 < divisor
+  pub is : (xs : List ℕ) → check xs ≡ Fine → answer xs ≡ given (map (λ x. nearest x divisor) (sumsOf sums xs)) []
+
+module _ {check : List ℕ → Check} {answer : List ℕ → Said} (it : Sums check answer) (i : ℕ) where
+  abbrev sum : List ℕ → ℕ
+  sum = sumAt (it .sums) i
+
+  sum-linear : (n : ℕ) → Linear n sum
+  sum-linear n = each-at (λ F. Linear n F) (none-linear n) (it .sums) (it .linear n) i
+
+  value-is : (xs : List ℕ) → check xs ≡ Fine → value (answer xs) i ≡ nearest (sum xs) (it .divisor)
+  value-is xs fine =
+      ap (λ (said : Said). value said i) (it .is xs fine)
+      ∙ value-at (λ x. nearest x (it .divisor)) (nearest-none (it .divisor)) (it .sums) xs i
+
+  values-are :
+      (xss : List (List ℕ)) → Each (λ xs. check xs ≡ Fine) xss →
+      valuesAt i (map answer xss) ≡ map (λ xs. nearest (sum xs) (it .divisor)) xss
+  values-are xss fine = map-map (λ said. value said i) answer xss ∙ map-passing value-is xss fine
+
+  -- rows that pass, and so does their mixture
+  pub half :
+      (n : ℕ) (xss : List (List ℕ)) → 1 ≤ length xss → Each (λ xs. check xs ≡ Fine) xss → Rows n xss → check (mixture n xss) ≡ Fine →
+      Differ (length xss / 2) (value (answer (mixture n xss)) i) (sumOf (valuesAt i (map answer xss)))
+  half n [] some fine rows mixed = absurd (omega arith)
+  half n (xs ∷ xss) some fine rows mixed =
+      rw (value-is (mixture n (xs ∷ xss)) mixed, values-are (xs ∷ xss) fine)
+      (illuminance n (it .divisor) sum (sum-linear n) (it .some xs (fine .0)) .many xs xss rows)
+
+  pub ordered :
+      (xs ys : List ℕ) → check xs ≡ Fine → check ys ≡ Fine → length xs ≡ length ys → Below xs ys → value (answer xs) i ≤ value (answer ys) i
+  ordered xs ys p q same below =
+      let n = length xs in
+      rw (value-is xs p, value-is ys q)
+      (illuminance n (it .divisor) sum (sum-linear n) (it .some xs p) .order xs ys refl (sym same) below)

@@ -1,0 +1,80 @@
+-- Two lights that are mixed are a string of two lamps: what is promised of mixing is the case of two.
+use mathlib.Core.Path.{_≡_, refl, sym, ap}
+use mathlib.Core.List.{List, [], _∷_}
+use Prim.Native.Nat.{ℕ, _+_}
+use native.Mathlib.Nat.{add-comm}
+use native.Mathlib.Omega.{arith}
+use borrow.Author.Tests.{ne-eqb}
+use lib.ListN.{length, getD}
+use Rattle.grid.specs.Refusals.{DARK}
+use Rattle.mixing.specs.Sum.{sumOf}
+use Rattle.mixing.specs.Mixture.{mix, mixture}
+use Rattle.mixing.proofs.Mixture.{getD-mix, mix-zeros}
+use Rattle.tables.specs.Column.{largest}
+use Rattle.light_promises.specs.Lights.{Answer, Mixable, OneUnit, BothLit, OneDark, Mixing}
+use Rattle.light_promises.specs.Strings.{Lamps, HalfTheirNumber, litOf, least, Coloured, StringOf}
+
+module _ (a s : ℕ) (xs ys : List ℕ) (both : Mixable a s xs ys) where
+  two-mixed : mixture (length xs) (xs ∷ ys ∷ []) ≡ mix xs ys
+  unfolding mixture
+  two-mixed = ap (λ (zs : List ℕ). mix xs zs) (mix-zeros (length xs) ys (sym (both .one-grid)))
+
+  two-lamps : Lamps 2 a s (length xs) (xs ∷ ys ∷ [])
+  two-lamps = record {
+    number = refl;
+    accepted = (both .first, (both .second, tt));
+    one-grid = (refl, (sym (both .one-grid), tt));
+    within = λ k. rw two-mixed (omega (arith, both .within k));
+  }
+
+  -- mixed the other way round, the samples are the same
+  swapped : Mixable a s ys xs
+  swapped = record {
+    first = both .second;
+    second = both .first;
+    one-grid = sym (both .one-grid);
+    within = λ k.
+        rw (getD-mix k ys xs (sym (both .one-grid)), add-comm (getD ys k 0) (getD xs k 0))
+        (rw (getD-mix k xs ys (both .one-grid)) at (both .within k));
+  }
+
+module _ (answer : Answer) where
+  one-unit : HalfTheirNumber 2 answer → OneUnit answer
+  unfolding sumOf
+  one-unit two a s xs ys both i =
+      let differ = rw (two-mixed a s xs ys both) at (two a s (length xs) (xs ∷ ys ∷ []) (two-lamps a s xs ys both) i) in
+      record { above = omega (arith, differ .above); below = omega (arith, differ .below) }
+
+  both-lit : Coloured 2 answer → BothLit answer
+  unfolding litOf least largest
+  both-lit two a s xs ys both p q =
+      let colour = rw (two-mixed a s xs ys both, ne-eqb (answer a s xs .number) DARK p, ne-eqb (answer a s ys .number) DARK q) at
+      (two .between a s (length xs) (xs ∷ ys ∷ []) (two-lamps a s xs ys both)) in
+      let lit = colour (omega arith) in
+      (lit .0, λ i. record { low = omega (arith, lit .1 i .low); high = omega (arith, lit .1 i .high) })
+
+  one-dark : Coloured 2 answer → OneDark answer
+  unfolding litOf
+  one-dark two a s xs ys both p q =
+      let other = swapped a s xs ys both in (
+        rw (two-mixed a s xs ys both) at
+            (two .one-lit a s (length xs) (xs ∷ ys ∷ []) (answer a s ys) (two-lamps a s xs ys both) (rw (p, ne-eqb (answer a s ys .number) DARK q))),
+        rw (two-mixed a s ys xs other) at
+            (two .one-lit a s (length ys) (ys ∷ xs ∷ []) (answer a s ys) (two-lamps a s ys xs other) (rw (p, ne-eqb (answer a s ys .number) DARK q))),
+      )
+
+pub mixing : StringOf 2 → Mixing
+mixing two = record {
+  accepted = λ a s xs ys both. rw (two-mixed a s xs ys both) at (two .accepted a s (length xs) (xs ∷ ys ∷ []) (two-lamps a s xs ys both));
+  photopic = one-unit _ (two .photopic);
+  scotopic = one-unit _ (two .scotopic);
+  photopic-10 = one-unit _ (two .photopic-10);
+  research-32 = one-unit _ (two .research-32);
+  research-40 = one-unit _ (two .research-40);
+  mesopic = λ k few. one-unit _ (two .mesopic k few);
+  xyz = λ o t. one-unit _ (two .xyz o t);
+  between = λ o t. both-lit _ (two .xy o t);
+  one-dark = λ o t. one-dark _ (two .xy o t);
+  uv-between = λ o t. both-lit _ (two .uv o t);
+  uv-one-dark = λ o t. one-dark _ (two .uv o t);
+}

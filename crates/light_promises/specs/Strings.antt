@@ -1,0 +1,75 @@
+-- What holds of whole strings of lamps: mixed light of any number of lights, of which two are a case.
+use mathlib.Core.Path.{_≡_}
+use mathlib.Core.Bool.{true, cond}
+use mathlib.Core.List.{List, [], _∷_, map}
+use Prim.Native.Nat.{ℕ, _/_, _≤_, _<_, min}
+use lib.Dec.{eqb}
+use lib.ListN.{length}
+use Rattle.grid.specs.Refusals.{DARK}
+use Rattle.grid.specs.declared.Check.the-variants.{Fine}
+use Rattle.grid.specs.Check.{Within, isObserver, lightCheck}
+use Rattle.grid.specs.Said.{Said, value}
+use Rattle.mixing.specs.Sum.{sumOf}
+use Rattle.mixing.specs.Mixture.{mixture, Each, Rows}
+use Rattle.mixing.specs.Promises.{Differ}
+use Rattle.tables.specs.Column.{largest}
+use Rattle.answers.specs.Said.{saidReading, saidXyz, saidXy, saidUv}
+use Rattle.readings.specs.Readings.{photopicOf, scotopicOf, photopic10Of, researchOf, mesopicOf, xyzOf, xyOf, uvOf}
+use Rattle.light_promises.specs.Lights.{Answer, Between, dark}
+
+-- m accepted spectra on one grid of n samples, whose samples summed place by place stay within the limit
+pub record Lamps (m a s n : ℕ) (xss : List (List ℕ)) : Type 0 where
+  pub number : length xss ≡ m
+  pub accepted : Each (λ xs. lightCheck a s xs ≡ Fine) xss
+  pub one-grid : Rows n xss
+  pub within : Within 1000000 (mixture n xss)
+
+-- the value that each has at a place
+abbrev pub valuesAt : ℕ → List Said → List ℕ
+valuesAt i saids = map (λ said. value said i) saids
+
+-- each value of the mixture differs from the sum of the lamps' by at most half their number, rounded down; that all are given is
+-- promised in `Range`
+abbrev pub HalfTheirNumber : ℕ → Answer → Type 0
+HalfTheirNumber m answer =
+    (a s n : ℕ) (xss : List (List ℕ)) → Lamps m a s n xss → (i : ℕ) →
+    Differ (m / 2) (value (answer a s (mixture n xss)) i) (sumOf (valuesAt i (map (answer a s) xss)))
+
+-- those that are not dark
+unfoldable pub litOf : List Said → List Said
+litOf [] = []
+litOf (said ∷ saids) = cond (eqb (said .number) DARK) (litOf saids) (said ∷ litOf saids)
+
+-- the least entry of a list, 0 where it has none
+unfoldable pub least : List ℕ → ℕ
+least [] = 0
+least (x ∷ []) = x
+least (x ∷ y ∷ ys) = min x (least (y ∷ ys))
+
+pub record Coloured (m : ℕ) (answer : Answer) : Type 0 where
+  -- where there is one that is not dark, the mixture is not, and each of its coordinates lies between the least and the greatest of
+  -- those that are not
+  pub between :
+      (a s n : ℕ) (xss : List (List ℕ)) → Lamps m a s n xss → let lit = litOf (map (answer a s) xss) in 0 < length lit →
+      (answer a s (mixture n xss) .number ≡ 0)
+      × ((i : ℕ) → Between (least (valuesAt i lit)) (largest (valuesAt i lit)) (value (answer a s (mixture n xss)) i))
+  -- where there is exactly one, the mixture has its coordinates
+  pub one-lit :
+      (a s n : ℕ) (xss : List (List ℕ)) (said : Said) → Lamps m a s n xss → litOf (map (answer a s) xss) ≡ said ∷ [] →
+      answer a s (mixture n xss) ≡ said
+  -- where all are dark, so is the mixture
+  pub all-dark :
+      (a s n : ℕ) (xss : List (List ℕ)) → Lamps m a s n xss → litOf (map (answer a s) xss) ≡ [] → answer a s (mixture n xss) ≡ dark
+
+-- a string of m lamps behaves, for each illuminance, for X, Y, Z, for x, y and for u′, v′
+pub record StringOf (m : ℕ) : Type 0 where
+  pub accepted : (a s n : ℕ) (xss : List (List ℕ)) → Lamps m a s n xss → lightCheck a s (mixture n xss) ≡ Fine
+  pub photopic : HalfTheirNumber m (λ a s xs. saidReading (photopicOf a s xs))
+  pub scotopic : HalfTheirNumber m (λ a s xs. saidReading (scotopicOf a s xs))
+  pub photopic-10 : HalfTheirNumber m (λ a s xs. saidReading (photopic10Of a s xs))
+  pub research-32 : HalfTheirNumber m (λ a s xs. saidReading (researchOf 32 a s xs))
+  pub research-40 : HalfTheirNumber m (λ a s xs. saidReading (researchOf 40 a s xs))
+  pub mesopic : (k : ℕ) → k ≤ 1000 → HalfTheirNumber m (λ a s xs. saidReading (mesopicOf k a s xs))
+  pub xyz : (o : ℕ) → isObserver o ≡ true → HalfTheirNumber m (λ a s xs. saidXyz (xyzOf o a s xs))
+  pub xy : (o : ℕ) → isObserver o ≡ true → Coloured m (λ a s xs. saidXy (xyOf o a s xs))
+  pub uv : (o : ℕ) → isObserver o ≡ true → Coloured m (λ a s xs. saidUv (uvOf o a s xs))
