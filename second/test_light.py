@@ -8,13 +8,14 @@ import shutil
 import tempfile
 import unittest
 from fractions import Fraction
-from itertools import combinations, product
+from itertools import chain, combinations, product
 from math import exp, hypot
 from operator import add, mul
 from pathlib import Path
 
 import light
 import many
+import strings
 import tables
 from light import Refused
 
@@ -798,36 +799,17 @@ class Mixing(unittest.TestCase):
             *light.xyz(10, *given),
         )
 
-    def test_each_amount_is_the_sum_to_one_unit_and_order_is_kept(self):
+    def test_two_lights_are_a_string_of_lamps(self):
+        readings = strings.readings_of(light, lambda reading: reading)
+        for start, step, (one, other, _) in chain(self.pairs(), self.extremes()):
+            lamps = [tuple(one), tuple(other)]
+            self.assertEqual(strings.faults(readings, (0, 500, 1000), start, step, lamps), [])
+
+    def test_no_amount_of_a_light_is_above_the_mixture_s(self):
         for start, step, rows in self.pairs():
             amounts = (self.amounts(start, step, row) for row in rows)
             for a, b, mixed in zip(*amounts, strict=True):
-                self.assertLessEqual(abs(mixed - (a + b)), 1)
                 self.assertLessEqual(max(a, b), mixed)
-
-    def assert_between(self, reading, start, step, rows):
-        """Each coordinate lies between those of the two lights, or is that of the lit one."""
-        *colours, mixed = (reading(start, step, row) for row in rows)
-        lit = [colour for colour in colours if colour != Refused(9)]
-        if not lit:
-            self.assertEqual(mixed, Refused(9))
-            return
-        for ends, coordinate in zip(zip(*lit, strict=True), mixed, strict=True):
-            self.assertLessEqual(min(ends), coordinate)
-            self.assertLessEqual(coordinate, max(ends))
-
-    def test_each_coordinate_lies_between_the_two(self):
-        for pairs in (self.pairs(), self.extremes()):
-            for mixing, reading in product(pairs, colour_readings().values()):
-                self.assert_between(reading, *mixing)
-
-    def test_a_dark_light_leaves_the_coordinates_of_the_other(self):
-        readings = colour_readings().values()
-        for (start, step, (one, *_)), reading in product(self.pairs(), readings):
-            dark, _ = lit_below_360(start, step, len(one))
-            mixture = list(map(add, one, dark))
-            colour = reading(start, step, one)
-            self.assertEqual(reading(start, step, mixture), colour)
 
 
 class Panels(unittest.TestCase):
