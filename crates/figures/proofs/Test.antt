@@ -9,7 +9,7 @@ use Rattle.grid.specs.Said.{Said}
 use Rattle.grid.specs.Check.{gridCheck, limitCheck, lightCheck}
 use Rattle.mixing.specs.Nearest.{nearest}
 use Rattle.mixing.specs.Sum.{total, weighted}
-use Rattle.mixing.specs.Mixture.{mix}
+use Rattle.mixing.specs.Mixture.{mix, mixture}
 use Rattle.tables.specs.Tables.{table, powers}
 use Rattle.spectrum.specs.Line.{lineAt, endRule, W, T as T′}
 use Rattle.answers.specs.Worked.{xyFrom, uvFrom}
@@ -91,5 +91,5 @@ holds (r ∷ rs) t = (
 
 -- the test, computed over the whole table
 pub passes : T (test rows)
-unfolding test isSame sameNumbers noFloats rows answerOf panelXyzOf panelXyOf panelUvOf panelFiguresOf panelCheck settingCheck whiteSum illuminanceOf mesopicOf xyzOf xyOf uvOf xyFrom uvFrom lightCheck gridCheck limitCheck W weighted total T′ lineAt endRule atReference table powers nearest mix
+unfolding test isSame sameNumbers noFloats rows answerOf panelXyzOf panelXyOf panelUvOf panelFiguresOf panelCheck settingCheck whiteSum illuminanceOf mesopicOf xyzOf xyOf uvOf xyFrom uvFrom lightCheck gridCheck limitCheck W weighted total T′ lineAt endRule atReference table powers nearest mix mixture
 passes = tt

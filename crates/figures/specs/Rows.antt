@@ -1,10 +1,10 @@
 -- The bench figures P1 to P10 with the rules' own numbers, the illuminances and X, Y, Z worked again with the reference at
--- 555.017 nm, u′ and v′ beside x and y, research figures, and some of the project's own. Refusals have their numbers here too, so
--- that the table holds the names to them.
+-- 555.017 nm, u′ and v′ beside x and y, research figures, strings of lamps, and some of the project's own. Refusals have their
+-- numbers here too, so that the table holds the names to them.
 use mathlib.Core.List.{List, [], _∷_, _++_}
 use Prim.Native.Nat.{ℕ, _-_}
 use lib.ListN.{replicate}
-use Rattle.mixing.specs.Mixture.{mix}
+use Rattle.mixing.specs.Mixture.{mix, mixture}
 use Rattle.grid.specs.Said.{Said, given, refusedWith}
 use Rattle.grid.specs.Check.{refusal}
 use Rattle.figures.specs.Asked.{Asked, photopic, scotopic, photopic10, research, mesopic, xyz, xy, uv, panelXyz, panelXy, panelUv, panelFigures}
@@ -23,6 +23,10 @@ refuses asked number place = record { asked = asked; answer = refusedWith (refus
 -- n samples, all 0 but v at place i
 abbrev pub lone : ℕ → ℕ → ℕ → List ℕ
 lone n i v = replicate i 0 ++ v ∷ replicate (n - i - 1) 0
+
+-- m rows of 41 samples that are alike, mixed
+abbrev strung : ℕ → List ℕ → List ℕ
+strung m xs = mixture 41 (replicate m xs)
 
 -- from 380 nm at step 1, 401 samples, all 0 but v at a wavelength's place: 460, 485 and 555 nm
 abbrev pub at460 : ℕ → List ℕ
@@ -198,6 +202,26 @@ rows =
     ∷ refuses (panelXyz 2 3 360 1 (replicate 471 10000)) 7 0
     ∷ refuses (panelXyz 2 1 360 1 (lone 471 470 10001)) 8 470
     ∷ refuses (panelXy 2 1 360 1 (replicate 471 0)) 9 0
+    -- our own: strings of lamps that each read 1, by just above a half: 2, 3 and 64 of them read 1, 1 and 32 less than their sum
+    ∷ gives (photopic 380 10 (lone 41 1 545)) (1 ∷ [])
+    ∷ gives (photopic 380 10 (strung 2 (lone 41 1 545))) (1 ∷ [])
+    ∷ gives (photopic 380 10 (strung 3 (lone 41 1 545))) (2 ∷ [])
+    ∷ gives (photopic 380 10 (strung 64 (lone 41 1 545))) (32 ∷ [])
+    -- our own: and of lamps that each read 0, by just below a half: they read 1, 1 and 32 more
+    ∷ gives (photopic 380 10 (lone 41 1 544)) (0 ∷ [])
+    ∷ gives (photopic 380 10 (strung 2 (lone 41 1 544))) (1 ∷ [])
+    ∷ gives (photopic 380 10 (strung 3 (lone 41 1 544))) (1 ∷ [])
+    ∷ gives (photopic 380 10 (strung 64 (lone 41 1 544))) (32 ∷ [])
+    -- our own: 64 lamps that reach the limit together, and that pass it by one
+    ∷ gives (photopic 380 10 (strung 64 (replicate 41 15625))) (72983452 ∷ [])
+    ∷ refuses (photopic 380 10 (strung 64 (lone 41 40 15626))) 4 40
+    -- our own: lamps at 460, 540 and 620 nm and one that is dark, by themselves and in a string; and 64 that are dark
+    ∷ gives (xy 2 380 10 (lone 41 8 15625)) (14381 ∷ 3041 ∷ [])
+    ∷ gives (xy 2 380 10 (lone 41 16 15625)) (23116 ∷ 75207 ∷ [])
+    ∷ gives (xy 2 380 10 (lone 41 24 15625)) (68989 ∷ 30996 ∷ [])
+    ∷ gives (xy 2 380 10 (mixture 41 (replicate 41 0 ∷ lone 41 8 15625 ∷ lone 41 16 15625 ∷ lone 41 24 15625 ∷ []))) (31806 ∷ 31014 ∷ [])
+    ∷ gives (xy 2 380 10 (mixture 41 (replicate 41 0 ∷ lone 41 8 15625 ∷ replicate 41 0 ∷ []))) (14381 ∷ 3041 ∷ [])
+    ∷ refuses (xy 2 380 10 (strung 64 (replicate 41 0))) 9 0
     -- our own: the refusals of u′ and v′, each before the next, of a light and of a panel
     ∷ refuses (uv 3 381 3 (lone 399 7 1000001)) 6 0
     ∷ refuses (uv 2 381 3 (lone 399 7 1000001)) 1 0

@@ -1,4 +1,4 @@
--- What holds of whole strings of lamps: mixed light of any number of lights, of which two are a case.
+-- What is promised of whole strings of lamps: mixed light of any number of lights from one on, of which two are a case.
 use mathlib.Core.Path.{_≡_}
 use mathlib.Core.Bool.{true, cond}
 use mathlib.Core.List.{List, [], _∷_, map}
@@ -73,3 +73,8 @@ pub record StringOf (m : ℕ) : Type 0 where
   pub xyz : (o : ℕ) → isObserver o ≡ true → HalfTheirNumber m (λ a s xs. saidXyz (xyzOf o a s xs))
   pub xy : (o : ℕ) → isObserver o ≡ true → Coloured m (λ a s xs. saidXy (xyOf o a s xs))
   pub uv : (o : ℕ) → isObserver o ≡ true → Coloured m (λ a s xs. saidUv (uvOf o a s xs))
+
+-- of any number of lamps from one on; a ceiling has up to 64
+pub record Strings : Type 0 where
+  pub any-number : (m : ℕ) → 1 ≤ m → StringOf m
+  pub ceiling : (m : ℕ) → 1 ≤ m → m ≤ 64 → StringOf m

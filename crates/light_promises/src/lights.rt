@@ -1,7 +1,8 @@
-// What is promised of a light's readings: their range, how mixed light behaves, the order of light, darkness, the refusals of
-// u′, v′ and the chart and of the research figures, and the mesopic reading by day and by night.
+// What is promised of a light's readings: their range, how mixed light and strings of lamps behave, the order of light, darkness,
+// the refusals of u′, v′ and the chart and of the research figures, and the mesopic reading by day and by night.
 ghost use Rattle.light_promises.specs.Range.{Range};
 ghost use Rattle.light_promises.specs.Research.{Research};
+ghost use Rattle.light_promises.specs.Strings.{Strings};
 ghost use Rattle.light_promises.specs.Lights.{Mixing, Order, Darkness, ColourRefusals, MesopicEnds};
 
 pub fn promise_range()
@@ -10,6 +11,10 @@ pub fn promise_range()
 
 pub fn promise_mixing()
     ensures { λ _. ⌜ Mixing ⌝ }
+{}
+
+pub fn promise_strings()
+    ensures { λ _. ⌜ Strings ⌝ }
 {}
 
 pub fn promise_order()
