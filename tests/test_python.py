@@ -518,16 +518,17 @@ class Numpy(Case):
 class Shown(Case):
     """What the documents show is what is printed."""
 
-    def assertPrinted(self, text, examples):
+    def assertPrinted(self, text):
         shown = doctest.DocTestParser().get_doctest(text, {}, "shown", None, 0)
-        self.assertEqual(doctest.DocTestRunner().run(shown), (0, examples))
+        self.assertGreater(len(shown.examples), 0)
+        self.assertEqual(doctest.DocTestRunner().run(shown), (0, text.count(">>> ")))
 
     def test_package(self):
-        self.assertPrinted(quailribbon.__doc__, 4)
+        self.assertPrinted(quailribbon.__doc__)
 
     def test_readme(self):
         readme = (ROOT / "README.md").read_text(encoding="utf-8")
-        self.assertPrinted(readme.replace("```", ""), 10)
+        self.assertPrinted(readme.replace("```", ""))
 
 
 @unittest.skipUnless(find_spec("setuptools"), "setuptools is missing")
