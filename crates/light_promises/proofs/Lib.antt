@@ -1,5 +1,6 @@
 -- Laws of mixed, ordered and dark lights, of refusals, of the range, and of panels.
 pub mod Least
+pub mod Passing
 pub mod SumAt
 pub mod Sums
 pub mod Over

@@ -18,7 +18,8 @@ use Rattle.answers.proofs.Values.{saidOver, over-given, over-none}
 use Rattle.light_promises.specs.Lights.{Between, dark}
 use Rattle.light_promises.specs.Strings.{valuesAt, litOf, least}
 use Rattle.light_promises.proofs.Least.{above-least, below-largest}
-use Rattle.light_promises.proofs.SumAt.{sumsOf, sumAt, none-linear, each-at, value-at, map-passing}
+use Rattle.light_promises.proofs.Passing.{Passing, map-passing}
+use Rattle.light_promises.proofs.SumAt.{sumsOf, sumAt, none-linear, each-at, value-at}
 
 -- a sum that is linear, and 0 where the divisor is
 abbrev pub Part : ℕ → (List ℕ → ℕ) → (List ℕ → ℕ) → Type 0
@@ -130,24 +131,22 @@ module _ (n : ℕ) (D : List ℕ → ℕ) (den : Linear n D) where
               rw (value-is i (mixture n xss) pos) (record { low = omega arith; high = omega arith }),
         )
 
-module _ {check : List ℕ → Check} {answer : List ℕ → Said} (it : Over check answer) (n : ℕ) (xss : List (List ℕ)) where
-  -- rows that pass, and so does their mixture
-  module _ (fine : Each (λ xs. check xs ≡ Fine) xss) (rows : Rows n xss) (mixed : check (mixture n xss) ≡ Fine) where
-    pub lit-between :
-        let lit = litOf (map answer xss) in
-        0 < length lit →
-        (answer (mixture n xss) .number ≡ 0)
-        × ((i : ℕ) → Between (least (valuesAt i lit)) (largest (valuesAt i lit)) (value (answer (mixture n xss)) i))
-    lit-between =
-        rw (map-passing (it .is) xss fine, it .is (mixture n xss) mixed)
-        (mixture-between n (it .divisor) (it .linear n) (it .parts) (it .all-parts n) xss rows)
+module _ {check : List ℕ → Check} {answer : List ℕ → Said} (it : Over check answer) (n : ℕ) (xss : List (List ℕ)) (all : Passing check n xss) where
+  pub lit-between :
+      let lit = litOf (map answer xss) in
+      0 < length lit →
+      (answer (mixture n xss) .number ≡ 0)
+      × ((i : ℕ) → Between (least (valuesAt i lit)) (largest (valuesAt i lit)) (value (answer (mixture n xss)) i))
+  lit-between =
+      rw (map-passing (it .is) xss (all .each), it .is (mixture n xss) (all .mixed))
+      (mixture-between n (it .divisor) (it .linear n) (it .parts) (it .all-parts n) xss (all .rows))
 
-    pub one-lit : (one : Said) → litOf (map answer xss) ≡ one ∷ [] → answer (mixture n xss) ≡ one
-    one-lit one =
-        rw (map-passing (it .is) xss fine, it .is (mixture n xss) mixed)
-        (mixture-one n (it .divisor) (it .linear n) (it .parts) (it .all-parts n) xss one rows)
+  pub one-lit : (one : Said) → litOf (map answer xss) ≡ one ∷ [] → answer (mixture n xss) ≡ one
+  one-lit one =
+      rw (map-passing (it .is) xss (all .each), it .is (mixture n xss) (all .mixed))
+      (mixture-one n (it .divisor) (it .linear n) (it .parts) (it .all-parts n) xss one (all .rows))
 
-    pub all-dark : litOf (map answer xss) ≡ [] → answer (mixture n xss) ≡ dark
-    all-dark =
-        rw (map-passing (it .is) xss fine, it .is (mixture n xss) mixed)
-        (mixture-unlit n (it .divisor) (it .linear n) (it .parts) (it .all-parts n) xss rows)
+  pub all-dark : litOf (map answer xss) ≡ [] → answer (mixture n xss) ≡ dark
+  all-dark =
+      rw (map-passing (it .is) xss (all .each), it .is (mixture n xss) (all .mixed))
+      (mixture-unlit n (it .divisor) (it .linear n) (it .parts) (it .all-parts n) xss (all .rows))

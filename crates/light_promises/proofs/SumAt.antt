@@ -1,10 +1,8 @@
--- Several sums of a row, and the one at a place; and rows that pass a check, of which two answers are one.
-use mathlib.Core.Path.{_≡_, refl, sym, ap₂}
+-- Several sums of a row, and the one at a place.
+use mathlib.Core.Path.{_≡_, refl, sym}
 use mathlib.Core.List.{List, [], _∷_, map}
 use Prim.Native.Nat.{ℕ, zero, suc}
 use lib.ListN.{getD}
-use Rattle.grid.specs.declared.Check.{Check}
-use Rattle.grid.specs.declared.Check.the-variants.{Fine}
 use Rattle.mixing.specs.Mixture.{Each, Linear}
 
 -- what each sum is of a row
@@ -29,9 +27,3 @@ pub value-at :
 value-at f none [] xs i = sym none
 value-at f none (F ∷ Fs) xs zero = refl
 value-at f none (F ∷ Fs) xs (suc i) = value-at f none Fs xs i
-
-pub map-passing :
-    {A : Type 0} {check : List ℕ → Check} {f g : List ℕ → A} → ((xs : List ℕ) → check xs ≡ Fine → f xs ≡ g xs) →
-    (xss : List (List ℕ)) → Each (λ xs. check xs ≡ Fine) xss → map f xss ≡ map g xss
-map-passing h [] e = refl
-map-passing {A} h (xs ∷ xss) e = ap₂ (λ (x : A) (ys : List A). x ∷ ys) (h xs (e .0)) (map-passing h xss (e .1))

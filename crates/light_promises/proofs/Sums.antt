@@ -10,12 +10,13 @@ use Rattle.grid.specs.declared.Check.the-variants.{Fine}
 use Rattle.grid.specs.Said.{Said, value, given}
 use Rattle.mixing.specs.Sum.{sumOf}
 use Rattle.mixing.specs.Nearest.{nearest}
-use Rattle.mixing.specs.Mixture.{mixture, Each, Rows, Below, Linear}
+use Rattle.mixing.specs.Mixture.{mixture, Each, Below, Linear}
 use Rattle.mixing.specs.Promises.{Differ}
 use Rattle.mixing.proofs.Nearest.{nearest-none}
 use Rattle.mixing.proofs.Illuminance.{illuminance}
 use Rattle.light_promises.specs.Strings.{valuesAt}
-use Rattle.light_promises.proofs.SumAt.{sumsOf, sumAt, none-linear, each-at, value-at, map-passing}
+use Rattle.light_promises.proofs.Passing.{Passing, map-passing}
+use Rattle.light_promises.proofs.SumAt.{sumsOf, sumAt, none-linear, each-at, value-at}
 
 -- an answer that is, of rows that pass a check, the nearest of linear sums over one number
 pub record Sums (check : List ℕ → Check) (answer : List ℕ → Said) : Type 0 where
@@ -37,19 +38,17 @@ module _ {check : List ℕ → Check} {answer : List ℕ → Said} (it : Sums ch
       ap (λ (said : Said). value said i) (it .is xs fine)
       ∙ value-at (λ x. nearest x (it .divisor)) (nearest-none (it .divisor)) (it .sums) xs i
 
-  values-are :
-      (xss : List (List ℕ)) → Each (λ xs. check xs ≡ Fine) xss →
-      valuesAt i (map answer xss) ≡ map (λ xs. nearest (sum xs) (it .divisor)) xss
-  values-are xss fine = map-map (λ said. value said i) answer xss ∙ map-passing value-is xss fine
-
-  -- rows that pass, and so does their mixture
   pub half :
-      (n : ℕ) (xss : List (List ℕ)) → 1 ≤ length xss → Each (λ xs. check xs ≡ Fine) xss → Rows n xss → check (mixture n xss) ≡ Fine →
+      (n : ℕ) (xss : List (List ℕ)) → 1 ≤ length xss → Passing check n xss →
       Differ (length xss / 2) (value (answer (mixture n xss)) i) (sumOf (valuesAt i (map answer xss)))
-  half n [] some fine rows mixed = absurd (omega arith)
-  half n (xs ∷ xss) some fine rows mixed =
-      rw (value-is (mixture n (xs ∷ xss)) mixed, values-are (xs ∷ xss) fine)
-      (illuminance n (it .divisor) sum (sum-linear n) (it .some xs (fine .0)) .many xs xss rows)
+  half n [] some all = absurd (omega arith)
+  half n (xs ∷ xss) some all =
+      rw (
+        value-is (mixture n (xs ∷ xss)) (all .mixed),
+        map-map (λ said. value said i) answer (xs ∷ xss),
+        map-passing value-is (xs ∷ xss) (all .each),
+      )
+      (illuminance n (it .divisor) sum (sum-linear n) (it .some xs (all .each .0)) .many xs xss (all .rows))
 
   pub ordered :
       (xs ys : List ℕ) → check xs ≡ Fine → check ys ≡ Fine → length xs ≡ length ys → Below xs ys → value (answer xs) i ≤ value (answer ys) i
