@@ -15,8 +15,8 @@ use Rattle.mixing.proofs.Coordinate.{between}
 use Rattle.tables.specs.Column.{largest}
 use Rattle.answers.specs.Worked.{inHundredThousandths}
 use Rattle.answers.proofs.Values.{saidOver, over-given, over-none}
-use Rattle.light_promises.specs.Lights.{Between, dark}
-use Rattle.light_promises.specs.Strings.{valuesAt, litOf, least}
+use Rattle.light_promises.specs.Lights.{Between}
+use Rattle.light_promises.specs.Strings.{valuesAt, litOf, least, Coloured}
 use Rattle.light_promises.proofs.Least.{above-least, below-largest}
 use Rattle.light_promises.proofs.Passing.{Passing, map-passing}
 use Rattle.light_promises.proofs.SumAt.{sumsOf, sumAt, none-linear, each-at, value-at}
@@ -82,9 +82,6 @@ module _ (n : ℕ) (D : List ℕ → ℕ) (den : Linear n D) where
         dark-or-lit (D xs) (λ e. omega (arith, sum, mixture-dark xss (rows .1) (sym (without xs (map said xss) e) ∙ none)))
         (λ pos. absurd (nil≢cons (sym none ∙ with-it xs (map said xss) pos)))
 
-    mixture-unlit : (xss : List (List ℕ)) → Rows n xss → litOf (map said xss) ≡ [] → said (mixture n xss) ≡ dark
-    mixture-unlit xss rows none = rw (mixture-dark xss rows none) (over-none (sumsOf Ns (mixture n xss)))
-
     -- where one alone is lit, the mixture says what it says
     mixture-one :
         (xss : List (List ℕ)) (one : Said) → Rows n xss → litOf (map said xss) ≡ one ∷ [] → said (mixture n xss) ≡ one
@@ -115,38 +112,30 @@ module _ (n : ℕ) (D : List ℕ → ℕ) (den : Linear n D) where
         ((λ _. rw (value-is i xs pos) at (both .0)), each-lit P i xss (both .1)))
 
     mixture-between :
-        (xss : List (List ℕ)) → Rows n xss → let lit = litOf (map said xss) in 0 < length lit →
-        (said (mixture n xss) .number ≡ 0)
-        × ((i : ℕ) → Between (least (valuesAt i lit)) (largest (valuesAt i lit)) (value (said (mixture n xss)) i))
-    mixture-between xss rows some =
-        let pos = mixture-lit xss rows some in (
-          rw (over-given (sumsOf Ns (mixture n xss)) (D (mixture n xss)) pos),
-          λ i.
-              let values = valuesAt i (litOf (map said xss)) in
-              let part = each-at (λ N. Part n D N) (none-linear n, λ xs e. refl) Ns all i in
-              let law = between n (λ xs. 100000 * sumAt Ns i xs) D (linear-times n 100000 (sumAt Ns i) (part .0)) den
-              (λ xs e. omega (arith, part .1 xs e)) in
-              let low = law .least (least values) xss rows (each-lit (λ v. least values ≤ v) i xss (above-least values)) pos in
-              let high = law .greatest (largest values) xss rows (each-lit (λ v. v ≤ largest values) i xss (below-largest values)) pos in
-              rw (value-is i (mixture n xss) pos) (record { low = omega arith; high = omega arith }),
-        )
+        (xss : List (List ℕ)) → Rows n xss → 0 < D (mixture n xss) → (i : ℕ) →
+        let values = valuesAt i (litOf (map said xss)) in
+        Between (least values) (largest values) (value (said (mixture n xss)) i)
+    mixture-between xss rows pos i =
+        let values = valuesAt i (litOf (map said xss)) in
+        let part = each-at (λ N. Part n D N) (none-linear n, λ xs e. refl) Ns all i in
+        let law = between n (λ xs. 100000 * sumAt Ns i xs) D (linear-times n 100000 (sumAt Ns i) (part .0)) den
+        (λ xs e. omega (arith, part .1 xs e)) in
+        let low = law .least (least values) xss rows (each-lit (λ v. least values ≤ v) i xss (above-least values)) pos in
+        let high = law .greatest (largest values) xss rows (each-lit (λ v. v ≤ largest values) i xss (below-largest values)) pos in
+        rw (value-is i (mixture n xss) pos) (record { low = omega arith; high = omega arith })
 
-module _ {check : List ℕ → Check} {answer : List ℕ → Said} (it : Over check answer) (n : ℕ) (xss : List (List ℕ)) (all : Passing check n xss) where
-  pub lit-between :
-      let lit = litOf (map answer xss) in
-      0 < length lit →
-      (answer (mixture n xss) .number ≡ 0)
-      × ((i : ℕ) → Between (least (valuesAt i lit)) (largest (valuesAt i lit)) (value (answer (mixture n xss)) i))
-  lit-between =
-      rw (map-passing (it .is) xss (all .each), it .is (mixture n xss) (all .mixed))
-      (mixture-between n (it .divisor) (it .linear n) (it .parts) (it .all-parts n) xss (all .rows))
+    said-coloured : (xss : List (List ℕ)) → Rows n xss → Coloured (map said xss) (said (mixture n xss))
+    said-coloured xss rows = record {
+      between = λ some.
+          let pos = mixture-lit xss rows some in
+          (rw (over-given (sumsOf Ns (mixture n xss)) (D (mixture n xss)) pos), mixture-between xss rows pos);
+      one-lit = λ one. mixture-one xss one rows;
+      all-dark = λ none. rw (mixture-dark xss rows none) (over-none (sumsOf Ns (mixture n xss)));
+    }
 
-  pub one-lit : (one : Said) → litOf (map answer xss) ≡ one ∷ [] → answer (mixture n xss) ≡ one
-  one-lit one =
-      rw (map-passing (it .is) xss (all .each), it .is (mixture n xss) (all .mixed))
-      (mixture-one n (it .divisor) (it .linear n) (it .parts) (it .all-parts n) xss one (all .rows))
-
-  pub all-dark : litOf (map answer xss) ≡ [] → answer (mixture n xss) ≡ dark
-  all-dark =
-      rw (map-passing (it .is) xss (all .each), it .is (mixture n xss) (all .mixed))
-      (mixture-unlit n (it .divisor) (it .linear n) (it .parts) (it .all-parts n) xss (all .rows))
+pub coloured :
+    {check : List ℕ → Check} {answer : List ℕ → Said} → Over check answer → (n : ℕ) (xss : List (List ℕ)) → Passing check n xss →
+    Coloured (map answer xss) (answer (mixture n xss))
+coloured it n xss all =
+    rw (map-passing (it .is) xss (all .each), it .is (mixture n xss) (all .mixed))
+    (said-coloured n (it .divisor) (it .linear n) (it .parts) (it .all-parts n) xss (all .rows))

@@ -12,10 +12,10 @@ use Rattle.mixing.specs.Mixture.{mixture}
 use Rattle.mixing.proofs.Mixture.{length-mixture}
 use Rattle.tables.specs.declared.Curve.the-variants.{YBar, VPrime, YBar10, VF, VF10}
 use Rattle.light_promises.specs.Lights.{Answer}
-use Rattle.light_promises.specs.Strings.{Lamps, HalfTheirNumber, Coloured, StringOf}
+use Rattle.light_promises.specs.Strings.{Lamps, HalfTheirNumber, Coloured, OfStrings, StringOf}
 use Rattle.light_promises.proofs.Passing.{Passing}
 use Rattle.light_promises.proofs.Sums.{half}
-use Rattle.light_promises.proofs.Over.{lit-between, one-lit, all-dark}
+use Rattle.light_promises.proofs.Over.{coloured}
 use Rattle.light_promises.proofs.Instances.{LightSums, LightOver, illuminance-sums, mesopic-sums, xyz-sums, xy-over, uv-over}
 
 module _ (m : ℕ) (any : 1 ≤ m) where
@@ -30,29 +30,22 @@ module _ (m : ℕ) (any : 1 ≤ m) where
   passing a s n xss lamps =
       record { each = lamps .accepted; rows = lamps .one-grid; mixed = lamps-accepted a s n xss lamps }
 
-  half-their-number : {answer : Answer} → LightSums answer → HalfTheirNumber m answer
-  half-their-number sums a s n xss lamps i =
-      let differ = rw (lamps .number) at
-      (half (sums a s) i n xss (rw (lamps .number) any) (passing a s n xss lamps)) in
-      record { above = omega (arith, differ .above); below = omega (arith, differ .below) }
+  halves : {answer : Answer} → LightSums answer → OfStrings m HalfTheirNumber answer
+  halves sums a s n xss lamps = half (sums a s) n xss (rw (lamps .number) any) (passing a s n xss lamps)
 
-  coloured : {answer : Answer} → LightOver answer → Coloured m answer
-  coloured over = record {
-    between = λ a s n xss lamps. lit-between (over a s) n xss (passing a s n xss lamps);
-    one-lit = λ a s n xss one lamps. one-lit (over a s) n xss (passing a s n xss lamps) one;
-    all-dark = λ a s n xss lamps. all-dark (over a s) n xss (passing a s n xss lamps);
-  }
+  colours : {answer : Answer} → LightOver answer → OfStrings m Coloured answer
+  colours over a s n xss lamps = coloured (over a s) n xss (passing a s n xss lamps)
 
   pub string-of : StringOf m
   string-of = record {
     accepted = lamps-accepted;
-    photopic = half-their-number (illuminance-sums YBar);
-    scotopic = half-their-number (illuminance-sums VPrime);
-    photopic-10 = half-their-number (illuminance-sums YBar10);
-    research-32 = half-their-number (illuminance-sums VF);
-    research-40 = half-their-number (illuminance-sums VF10);
-    mesopic = λ k few. half-their-number (mesopic-sums k few);
-    xyz = λ o t. half-their-number (xyz-sums o t);
-    xy = λ o t. coloured (xy-over o t);
-    uv = λ o t. coloured (uv-over o t);
+    photopic = halves (illuminance-sums YBar);
+    scotopic = halves (illuminance-sums VPrime);
+    photopic-10 = halves (illuminance-sums YBar10);
+    research-32 = halves (illuminance-sums VF);
+    research-40 = halves (illuminance-sums VF10);
+    mesopic = λ k few. halves (mesopic-sums k few);
+    xyz = λ o t. halves (xyz-sums o t);
+    xy = λ o t. colours (xy-over o t);
+    uv = λ o t. colours (uv-over o t);
   }

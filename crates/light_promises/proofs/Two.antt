@@ -12,7 +12,7 @@ use Rattle.mixing.specs.Mixture.{mix, mixture}
 use Rattle.mixing.proofs.Mixture.{getD-mix, mix-zeros}
 use Rattle.tables.specs.Column.{largest}
 use Rattle.light_promises.specs.Lights.{Answer, Mixable, OneUnit, BothLit, OneDark, Mixing}
-use Rattle.light_promises.specs.Strings.{Lamps, HalfTheirNumber, litOf, least, Coloured, StringOf}
+use Rattle.light_promises.specs.Strings.{Lamps, HalfTheirNumber, litOf, least, Coloured, OfStrings, StringOf}
 
 module _ (a s : ℕ) (xs ys : List ℕ) (both : Mixable a s xs ys) where
   two-mixed : mixture (length xs) (xs ∷ ys ∷ []) ≡ mix xs ys
@@ -39,29 +39,32 @@ module _ (a s : ℕ) (xs ys : List ℕ) (both : Mixable a s xs ys) where
   }
 
 module _ (answer : Answer) where
-  one-unit : HalfTheirNumber 2 answer → OneUnit answer
+  one-unit : OfStrings 2 HalfTheirNumber answer → OneUnit answer
   unfolding sumOf
   one-unit two a s xs ys both i =
       let differ = rw (two-mixed a s xs ys both) at (two a s (length xs) (xs ∷ ys ∷ []) (two-lamps a s xs ys both) i) in
       record { above = omega (arith, differ .above); below = omega (arith, differ .below) }
 
-  both-lit : Coloured 2 answer → BothLit answer
-  unfolding litOf least largest
-  both-lit two a s xs ys both p q =
-      let colour = rw (two-mixed a s xs ys both, ne-eqb (answer a s xs .number) DARK p, ne-eqb (answer a s ys .number) DARK q) at
-      (two .between a s (length xs) (xs ∷ ys ∷ []) (two-lamps a s xs ys both)) in
-      let lit = colour (omega arith) in
-      (lit .0, λ i. record { low = omega (arith, lit .1 i .low); high = omega (arith, lit .1 i .high) })
+  module _ (two : OfStrings 2 Coloured answer) where
+    coloured : (a s : ℕ) (xs ys : List ℕ) → Mixable a s xs ys → Coloured (answer a s xs ∷ answer a s ys ∷ []) (answer a s (mix xs ys))
+    coloured a s xs ys both =
+        rw (two-mixed a s xs ys both) at (two a s (length xs) (xs ∷ ys ∷ []) (two-lamps a s xs ys both))
 
-  one-dark : Coloured 2 answer → OneDark answer
-  unfolding litOf
-  one-dark two a s xs ys both p q =
-      let other = swapped a s xs ys both in (
-        rw (two-mixed a s xs ys both) at
-            (two .one-lit a s (length xs) (xs ∷ ys ∷ []) (answer a s ys) (two-lamps a s xs ys both) (rw (p, ne-eqb (answer a s ys .number) DARK q))),
-        rw (two-mixed a s ys xs other) at
-            (two .one-lit a s (length ys) (ys ∷ xs ∷ []) (answer a s ys) (two-lamps a s ys xs other) (rw (p, ne-eqb (answer a s ys .number) DARK q))),
-      )
+    both-lit : BothLit answer
+    unfolding litOf least largest
+    both-lit a s xs ys both p q =
+        let colour = rw (ne-eqb (answer a s xs .number) DARK p, ne-eqb (answer a s ys .number) DARK q) at
+        (coloured a s xs ys both .between) in
+        let lit = colour (omega arith) in
+        (lit .0, λ i. record { low = omega (arith, lit .1 i .low); high = omega (arith, lit .1 i .high) })
+
+    one-dark : OneDark answer
+    unfolding litOf
+    one-dark a s xs ys both p q =
+        let lit = ne-eqb (answer a s ys .number) DARK q in (
+          coloured a s xs ys both .one-lit (answer a s ys) (rw (p, lit)),
+          coloured a s ys xs (swapped a s xs ys both) .one-lit (answer a s ys) (rw (p, lit)),
+        )
 
 pub mixing : StringOf 2 → Mixing
 mixing two = record {

@@ -28,12 +28,10 @@ pub record Lamps (m a s n : ℕ) (xss : List (List ℕ)) : Type 0 where
 abbrev pub valuesAt : ℕ → List Said → List ℕ
 valuesAt i saids = map (λ said. value said i) saids
 
--- each value of the mixture differs from the sum of the lamps' by at most half their number, rounded down; that all are given is
--- promised in `Range`
-abbrev pub HalfTheirNumber : ℕ → Answer → Type 0
-HalfTheirNumber m answer =
-    (a s n : ℕ) (xss : List (List ℕ)) → Lamps m a s n xss → (i : ℕ) →
-    Differ (m / 2) (value (answer a s (mixture n xss)) i) (sumOf (valuesAt i (map (answer a s) xss)))
+-- of what is said of lamps and of their mixture: each value of the mixture differs from the sum of the lamps' by at most half their
+-- number, rounded down; that all are given is promised in `Range`
+abbrev pub HalfTheirNumber : List Said → Said → Type 0
+HalfTheirNumber lamps mixed = (i : ℕ) → Differ (length lamps / 2) (value mixed i) (sumOf (valuesAt i lamps))
 
 -- those that are not dark
 unfoldable pub litOf : List Said → List Said
@@ -46,33 +44,36 @@ least [] = 0
 least (x ∷ []) = x
 least (x ∷ y ∷ ys) = min x (least (y ∷ ys))
 
-pub record Coloured (m : ℕ) (answer : Answer) : Type 0 where
+-- likewise of their coordinates
+pub record Coloured (lamps : List Said) (mixed : Said) : Type 0 where
   -- where there is one that is not dark, the mixture is not, and each of its coordinates lies between the least and the greatest of
   -- those that are not
   pub between :
-      (a s n : ℕ) (xss : List (List ℕ)) → Lamps m a s n xss → let lit = litOf (map (answer a s) xss) in 0 < length lit →
-      (answer a s (mixture n xss) .number ≡ 0)
-      × ((i : ℕ) → Between (least (valuesAt i lit)) (largest (valuesAt i lit)) (value (answer a s (mixture n xss)) i))
+      let lit = litOf lamps in
+      0 < length lit →
+      (mixed .number ≡ 0) × ((i : ℕ) → Between (least (valuesAt i lit)) (largest (valuesAt i lit)) (value mixed i))
   -- where there is exactly one, the mixture has its coordinates
-  pub one-lit :
-      (a s n : ℕ) (xss : List (List ℕ)) (said : Said) → Lamps m a s n xss → litOf (map (answer a s) xss) ≡ said ∷ [] →
-      answer a s (mixture n xss) ≡ said
+  pub one-lit : (one : Said) → litOf lamps ≡ one ∷ [] → mixed ≡ one
   -- where all are dark, so is the mixture
-  pub all-dark :
-      (a s n : ℕ) (xss : List (List ℕ)) → Lamps m a s n xss → litOf (map (answer a s) xss) ≡ [] → answer a s (mixture n xss) ≡ dark
+  pub all-dark : litOf lamps ≡ [] → mixed ≡ dark
+
+-- whatever string of m lamps is asked about, this holds of what is said of them and of their mixture
+abbrev pub OfStrings : ℕ → (List Said → Said → Type 0) → Answer → Type 0
+OfStrings m Holds answer =
+    (a s n : ℕ) (xss : List (List ℕ)) → Lamps m a s n xss → Holds (map (answer a s) xss) (answer a s (mixture n xss))
 
 -- a string of m lamps behaves, for each illuminance, for X, Y, Z, for x, y and for u′, v′
 pub record StringOf (m : ℕ) : Type 0 where
   pub accepted : (a s n : ℕ) (xss : List (List ℕ)) → Lamps m a s n xss → lightCheck a s (mixture n xss) ≡ Fine
-  pub photopic : HalfTheirNumber m (λ a s xs. saidReading (photopicOf a s xs))
-  pub scotopic : HalfTheirNumber m (λ a s xs. saidReading (scotopicOf a s xs))
-  pub photopic-10 : HalfTheirNumber m (λ a s xs. saidReading (photopic10Of a s xs))
-  pub research-32 : HalfTheirNumber m (λ a s xs. saidReading (researchOf 32 a s xs))
-  pub research-40 : HalfTheirNumber m (λ a s xs. saidReading (researchOf 40 a s xs))
-  pub mesopic : (k : ℕ) → k ≤ 1000 → HalfTheirNumber m (λ a s xs. saidReading (mesopicOf k a s xs))
-  pub xyz : (o : ℕ) → isObserver o ≡ true → HalfTheirNumber m (λ a s xs. saidXyz (xyzOf o a s xs))
-  pub xy : (o : ℕ) → isObserver o ≡ true → Coloured m (λ a s xs. saidXy (xyOf o a s xs))
-  pub uv : (o : ℕ) → isObserver o ≡ true → Coloured m (λ a s xs. saidUv (uvOf o a s xs))
+  pub photopic : OfStrings m HalfTheirNumber (λ a s xs. saidReading (photopicOf a s xs))
+  pub scotopic : OfStrings m HalfTheirNumber (λ a s xs. saidReading (scotopicOf a s xs))
+  pub photopic-10 : OfStrings m HalfTheirNumber (λ a s xs. saidReading (photopic10Of a s xs))
+  pub research-32 : OfStrings m HalfTheirNumber (λ a s xs. saidReading (researchOf 32 a s xs))
+  pub research-40 : OfStrings m HalfTheirNumber (λ a s xs. saidReading (researchOf 40 a s xs))
+  pub mesopic : (k : ℕ) → k ≤ 1000 → OfStrings m HalfTheirNumber (λ a s xs. saidReading (mesopicOf k a s xs))
+  pub xyz : (o : ℕ) → isObserver o ≡ true → OfStrings m HalfTheirNumber (λ a s xs. saidXyz (xyzOf o a s xs))
+  pub xy : (o : ℕ) → isObserver o ≡ true → OfStrings m Coloured (λ a s xs. saidXy (xyOf o a s xs))
+  pub uv : (o : ℕ) → isObserver o ≡ true → OfStrings m Coloured (λ a s xs. saidUv (uvOf o a s xs))
 
 -- of any number of lamps from one on; a ceiling has up to 64
 pub record Strings : Type 0 where
