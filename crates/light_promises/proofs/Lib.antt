@@ -1,4 +1,5 @@
 -- Laws of mixed, ordered and dark lights, of refusals, of the range, and of panels.
+pub mod Each
 pub mod Least
 pub mod Passing
 pub mod SumAt

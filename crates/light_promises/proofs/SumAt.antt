@@ -3,7 +3,7 @@ use mathlib.Core.Path.{_≡_, refl, sym}
 use mathlib.Core.List.{List, [], _∷_, map}
 use Prim.Native.Nat.{ℕ, zero, suc}
 use lib.ListN.{getD}
-use Rattle.mixing.specs.Mixture.{Each, Linear}
+use Rattle.mixing.specs.Mixture.{Linear}
 
 -- what each sum is of a row
 abbrev pub sumsOf : List (List ℕ → ℕ) → List ℕ → List ℕ
@@ -15,12 +15,6 @@ sumAt Fs i = getD Fs i (λ xs. 0)
 
 pub none-linear : (n : ℕ) → Linear n (λ xs. 0)
 none-linear n = record { adds = λ xs ys p q. refl }
-
--- what holds of that one and of each holds at every place
-pub each-at : (P : (List ℕ → ℕ) → Type 0) → P (λ xs. 0) → (Fs : List (List ℕ → ℕ)) → Each P Fs → (i : ℕ) → P (sumAt Fs i)
-each-at P none [] each i = none
-each-at P none (F ∷ Fs) each zero = each .0
-each-at P none (F ∷ Fs) each (suc i) = each-at P none Fs (each .1) i
 
 pub value-at :
     (f : ℕ → ℕ) → f 0 ≡ 0 → (Fs : List (List ℕ → ℕ)) (xs : List ℕ) (i : ℕ) → getD (map f (sumsOf Fs xs)) i 0 ≡ f (sumAt Fs i xs)

@@ -13,8 +13,9 @@ use Rattle.mixing.specs.Mixture.{mixture, Each, Below, Linear}
 use Rattle.mixing.proofs.Nearest.{nearest-none}
 use Rattle.mixing.proofs.Illuminance.{illuminance}
 use Rattle.light_promises.specs.Strings.{HalfTheirNumber}
-use Rattle.light_promises.proofs.Passing.{Passing, map-passing}
-use Rattle.light_promises.proofs.SumAt.{sumsOf, sumAt, none-linear, each-at, value-at}
+use Rattle.light_promises.proofs.Each.{each-at, map-each}
+use Rattle.light_promises.proofs.Passing.{Passing}
+use Rattle.light_promises.proofs.SumAt.{sumsOf, sumAt, none-linear, value-at}
 
 -- an answer that is, of rows that pass a check, the nearest of linear sums over one number
 pub record Sums (check : List ℕ → Check) (answer : List ℕ → Said) : Type 0 where
@@ -44,7 +45,7 @@ module _ {check : List ℕ → Check} {answer : List ℕ → Said} (it : Sums ch
         length-map (xs ∷ xss) answer,
         value-is i (mixture n (xs ∷ xss)) (all .mixed),
         map-map (λ said. value said i) answer (xs ∷ xss),
-        map-passing (value-is i) (xs ∷ xss) (all .each),
+        map-each (value-is i) (xs ∷ xss) (all .each),
       )
       (record { above = omega (arith, differ .above); below = omega (arith, differ .below) })
 
