@@ -19,7 +19,7 @@ use Rattle.answers.specs.Worked.{inHundredThousandths, xyOver, xyFrom, u
 use Rattle.answers.specs.Said.{saidXy, saidUv, saidOnChart}
 
 -- each numerator over the divisor
-abbrev pub eachOver : List ℕ → ℕ → List ℕ
+abbrev eachOver : List ℕ → ℕ → List ℕ
 eachOver ns d = map (λ n. inHundredThousandths n d) ns
 
 -- these, or DARK where the divisor is 0

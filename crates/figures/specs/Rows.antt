@@ -212,10 +212,11 @@ rows =
     ∷ gives (photopic 380 10 (strung 2 (lone 41 1 544))) (1 ∷ [])
     ∷ gives (photopic 380 10 (strung 3 (lone 41 1 544))) (1 ∷ [])
     ∷ gives (photopic 380 10 (strung 64 (lone 41 1 544))) (32 ∷ [])
-    -- our own: 64 lamps that reach the limit together, and that pass it by one
+    -- our own: 64 lamps that reach the limit together, and 64 that would pass it at the last place
     ∷ gives (photopic 380 10 (strung 64 (replicate 41 15625))) (72983452 ∷ [])
     ∷ refuses (photopic 380 10 (strung 64 (lone 41 40 15626))) 4 40
-    -- our own: lamps at 460, 540 and 620 nm and one that is dark, by themselves and in a string; and 64 that are dark
+    -- our own: lamps at 460, 540 and 620 nm, by themselves and in a string with a dark one; one lit lamp between two dark ones; and
+    -- 64 that are dark
     ∷ gives (xy 2 380 10 (lone 41 8 15625)) (14381 ∷ 3041 ∷ [])
     ∷ gives (xy 2 380 10 (lone 41 16 15625)) (23116 ∷ 75207 ∷ [])
     ∷ gives (xy 2 380 10 (lone 41 24 15625)) (68989 ∷ 30996 ∷ [])

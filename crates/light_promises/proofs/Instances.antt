@@ -2,7 +2,7 @@
 -- of light are taken at these.
 use mathlib.Core.Path.{_≡_}
 use mathlib.Core.Bool.{true}
-use mathlib.Core.List.{List, [], _∷_}
+use mathlib.Core.List.{[], _∷_}
 use Prim.Native.Nat.{ℕ, _+_, _*_, _-_, _≤_}
 use native.Mathlib.Omega.{arith}
 use borrow.Author.Tests.{le-leb}
@@ -10,7 +10,7 @@ use Rattle.grid.specs.Check.{isObserver, lightCheck}
 use Rattle.mixing.specs.Mixture.{Linear}
 use Rattle.mixing.proofs.Mixture.{linear-plus, linear-times}
 use Rattle.tables.specs.declared.Curve.{Curve}
-use Rattle.tables.specs.declared.Curve.the-variants.{YBar, VPrime}
+use Rattle.tables.specs.declared.Curve.the-variants.{YBar, VPrime, YBar10, VF, VF10}
 use Rattle.tables.specs.Curves.{weightOf}
 use Rattle.spectrum.proofs.Measured.{W-linear}
 use Rattle.answers.specs.Said.{saidReading, saidXyz, saidXy, saidUv}
@@ -22,8 +22,8 @@ use Rattle.readings.specs.Readings.{weighed, illuminanceOf, mesopicWeighed, mes
 use Rattle.readings.specs.Sums.{mesopicDivisor}
 use Rattle.readings.proofs.Worked.{illuminance-is, mesopic-is, xyz-is}
 use Rattle.readings.proofs.Small.{millilux-fits, mesopic-fits}
-use Rattle.light_promises.specs.Lights.{Answer, InOrder}
-use Rattle.light_promises.proofs.Sums.{Sums, ordered}
+use Rattle.light_promises.specs.Lights.{Answer, Amounts, Colours}
+use Rattle.light_promises.proofs.Sums.{Sums}
 use Rattle.light_promises.proofs.Over.{Over}
 
 -- of accepted lights, on any grid
@@ -39,7 +39,7 @@ curve-linear n c a s = W-linear n (weightOf c) a s
 times-linear : (n f : ℕ) (c : Curve) (a s : ℕ) → Linear n (λ xs. f * weighed c a s xs)
 times-linear n f c a s = linear-times n f (λ xs. weighed c a s xs) (curve-linear n c a s)
 
-pub illuminance-sums : (c : Curve) → LightSums (λ a s xs. saidReading (illuminanceOf c a s xs))
+illuminance-sums : (c : Curve) → LightSums (λ a s xs. saidReading (illuminanceOf c a s xs))
 illuminance-sums c a s = record {
   sums = (λ xs. 683 * weighed c a s xs) ∷ [];
   divisor = s * divisorOf c;
@@ -48,7 +48,7 @@ illuminance-sums c a s = record {
   is = λ xs fine. rw (illuminance-is a s xs c, fine);
 }
 
-pub mesopic-sums : (k : ℕ) → k ≤ 1000 → LightSums (λ a s xs. saidReading (mesopicOf k a s xs))
+mesopic-sums : (k : ℕ) → k ≤ 1000 → LightSums (λ a s xs. saidReading (mesopicOf k a s xs))
 mesopic-sums k few a s = record {
   sums = (λ xs. 683 * mesopicWeighed k a s xs) ∷ [];
   divisor = mesopicDivisor k s;
@@ -72,7 +72,7 @@ module _ (o : ℕ) (t : isObserver o ≡ true) where
   abbrev z : Curve
   z = curvesOf o .z
 
-  pub xyz-sums : LightSums (λ a s xs. saidXyz (xyzOf o a s xs))
+  xyz-sums : LightSums (λ a s xs. saidXyz (xyzOf o a s xs))
   xyz-sums a s = record {
     sums = (λ xs. 683 * weighed x a s xs) ∷ (λ xs. 683 * weighed y a s xs) ∷ (λ xs. 683 * weighed z a s xs) ∷ [];
     divisor = s * divisorOf y;
@@ -81,7 +81,7 @@ module _ (o : ℕ) (t : isObserver o ≡ true) where
     is = λ xs fine. rw (xyz-is a s xs o, t, fine);
   }
 
-  pub xy-over : LightOver (λ a s xs. saidXy (xyOf o a s xs))
+  xy-over : LightOver (λ a s xs. saidXy (xyOf o a s xs))
   unfolding xyOf
   xy-over a s = record {
     parts = (λ xs. weighed x a s xs) ∷ (λ xs. weighed y a s xs) ∷ [];
@@ -94,7 +94,7 @@ module _ (o : ℕ) (t : isObserver o ≡ true) where
     is = λ xs fine. rw (t, fine) (xy-is _ _ _);
   }
 
-  pub uv-over : LightOver (λ a s xs. saidUv (uvOf o a s xs))
+  uv-over : LightOver (λ a s xs. saidUv (uvOf o a s xs))
   unfolding uvOf
   uv-over a s = record {
     parts = (λ xs. 4 * weighed x a s xs) ∷ (λ xs. 9 * weighed y a s xs) ∷ [];
@@ -107,5 +107,17 @@ module _ (o : ℕ) (t : isObserver o ≡ true) where
     is = λ xs fine. rw (t, fine) (uv-is _ _ _);
   }
 
-pub in-order : {answer : Answer} → LightSums answer → InOrder answer
-in-order sums a s xs ys p q same below i = ordered (sums a s) i xs ys p q same below
+-- what holds of any answer that is sums over a number holds of each amount, and what holds of any over a sum of each colour
+pub amounts-of : (Holds : Answer → Type 0) → ((answer : Answer) → LightSums answer → Holds answer) → Amounts Holds
+amounts-of Holds law = record {
+  photopic = law _ (illuminance-sums YBar);
+  scotopic = law _ (illuminance-sums VPrime);
+  photopic-10 = law _ (illuminance-sums YBar10);
+  research-32 = law _ (illuminance-sums VF);
+  research-40 = law _ (illuminance-sums VF10);
+  mesopic = λ k few. law _ (mesopic-sums k few);
+  xyz = λ o t. law _ (xyz-sums o t);
+}
+
+pub colours-of : (Holds : Answer → Type 0) → ((answer : Answer) → LightOver answer → Holds answer) → Colours Holds
+colours-of Holds law = record { xy = λ o t. law _ (xy-over o t); uv = λ o t. law _ (uv-over o t) }

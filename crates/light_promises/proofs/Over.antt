@@ -1,5 +1,5 @@
--- The law of mixed light where the divisor is linear too: over any check, an answer that is dark where it is 0 lies between the least
--- and the greatest of those that are not dark; it is the only one's, and dark where there is none.
+-- The law of mixed light where the divisor is linear too: over any check, an answer that is dark where its divisor is 0 lies, of a
+-- mixture, between the least and the greatest of the rows' that are not dark; it is the only one's, and dark where there is none.
 use mathlib.Core.Path.{_≡_, refl, _∙_, sym, ap₂}
 use mathlib.Core.List.{List, [], _∷_, map, nil≢cons, head-eq-of-cons-eq, tail-eq-of-cons-eq}
 use Prim.Native.Nat.{ℕ, zero, suc, _+_, _*_, _≤_, _<_}
@@ -124,7 +124,7 @@ module _ (n : ℕ) (D : List ℕ → ℕ) (den : Linear n D) (Ns : List (List �
         let pos = mixture-lit xss rows some in
         (rw (over-given (sumsOf Ns (mixture n xss)) (D (mixture n xss)) pos), mixture-between xss rows pos);
     one-lit = λ one. mixture-one xss one rows;
-    all-dark = λ none. rw (mixture-dark xss rows none) (over-none (sumsOf Ns (mixture n xss)));
+    all-dark = λ none. rw (mixture-dark xss rows none, over-none (sumsOf Ns (mixture n xss)));
   }
 
 pub coloured :

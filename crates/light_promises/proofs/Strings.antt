@@ -10,16 +10,15 @@ use Rattle.grid.proofs.Limit.{within-fine}
 use Rattle.grid.proofs.Light.{grid-fine}
 use Rattle.mixing.specs.Mixture.{mixture}
 use Rattle.mixing.proofs.Mixture.{length-mixture}
-use Rattle.tables.specs.declared.Curve.the-variants.{YBar, VPrime, YBar10, VF, VF10}
 use Rattle.light_promises.specs.Lights.{Answer}
 use Rattle.light_promises.specs.Strings.{Lamps, HalfTheirNumber, Coloured, OfStrings, StringOf}
 use Rattle.light_promises.proofs.Passing.{Passing}
 use Rattle.light_promises.proofs.Sums.{half}
 use Rattle.light_promises.proofs.Over.{coloured}
-use Rattle.light_promises.proofs.Instances.{LightSums, LightOver, illuminance-sums, mesopic-sums, xyz-sums, xy-over, uv-over}
+use Rattle.light_promises.proofs.Instances.{LightSums, LightOver, amounts-of, colours-of}
 
 module _ (m : ℕ) (any : 1 ≤ m) where
-  lamps-accepted : (a s n : ℕ) (xss : List (List ℕ)) → Lamps m a s n xss → lightCheck a s (mixture n xss) ≡ Fine
+  pub lamps-accepted : (a s n : ℕ) (xss : List (List ℕ)) → Lamps m a s n xss → lightCheck a s (mixture n xss) ≡ Fine
   unfolding lightCheck
   lamps-accepted a s n [] lamps = absurd (let number = lamps .number in omega arith)
   lamps-accepted a s n (xs ∷ xss) lamps =
@@ -30,22 +29,11 @@ module _ (m : ℕ) (any : 1 ≤ m) where
   passing a s n xss lamps =
       record { each = lamps .accepted; rows = lamps .one-grid; mixed = lamps-accepted a s n xss lamps }
 
-  halves : {answer : Answer} → LightSums answer → OfStrings m HalfTheirNumber answer
-  halves sums a s n xss lamps = half (sums a s) n xss (rw (lamps .number) any) (passing a s n xss lamps)
+  pub halves : (answer : Answer) → LightSums answer → OfStrings m HalfTheirNumber answer
+  halves answer sums a s n xss lamps = half (sums a s) n xss (rw (lamps .number) any) (passing a s n xss lamps)
 
-  colours : {answer : Answer} → LightOver answer → OfStrings m Coloured answer
-  colours over a s n xss lamps = coloured (over a s) n xss (passing a s n xss lamps)
+  pub colours : (answer : Answer) → LightOver answer → OfStrings m Coloured answer
+  colours answer over a s n xss lamps = coloured (over a s) n xss (passing a s n xss lamps)
 
   pub string-of : StringOf m
-  string-of = record {
-    accepted = lamps-accepted;
-    photopic = halves (illuminance-sums YBar);
-    scotopic = halves (illuminance-sums VPrime);
-    photopic-10 = halves (illuminance-sums YBar10);
-    research-32 = halves (illuminance-sums VF);
-    research-40 = halves (illuminance-sums VF10);
-    mesopic = λ k few. halves (mesopic-sums k few);
-    xyz = λ o t. halves (xyz-sums o t);
-    xy = λ o t. colours (xy-over o t);
-    uv = λ o t. colours (uv-over o t);
-  }
+  string-of = record { accepted = lamps-accepted; amounts = amounts-of _ halves; colours = colours-of _ colours }

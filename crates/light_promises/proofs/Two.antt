@@ -1,7 +1,7 @@
 -- Two lights that are mixed are a string of two lamps: what is promised of mixing is the case of two.
 use mathlib.Core.Path.{_≡_, refl, sym, ap}
 use mathlib.Core.List.{List, [], _∷_}
-use Prim.Native.Nat.{ℕ, _+_}
+use Prim.Native.Nat.{ℕ, _≤_}
 use native.Mathlib.Nat.{add-comm}
 use native.Mathlib.Omega.{arith}
 use borrow.Author.Tests.{ne-eqb}
@@ -12,7 +12,9 @@ use Rattle.mixing.specs.Mixture.{mix, mixture}
 use Rattle.mixing.proofs.Mixture.{getD-mix, mix-zeros}
 use Rattle.tables.specs.Column.{largest}
 use Rattle.light_promises.specs.Lights.{Answer, Mixable, OneUnit, BothLit, OneDark, Mixing}
-use Rattle.light_promises.specs.Strings.{Lamps, HalfTheirNumber, litOf, least, Coloured, OfStrings, StringOf}
+use Rattle.light_promises.specs.Strings.{Lamps, HalfTheirNumber, litOf, least, Coloured, OfStrings}
+use Rattle.light_promises.proofs.Instances.{amounts-of, colours-of}
+use Rattle.light_promises.proofs.Strings.{lamps-accepted, halves, colours}
 
 module _ (a s : ℕ) (xs ys : List ℕ) (both : Mixable a s xs ys) where
   two-mixed : mixture (length xs) (xs ∷ ys ∷ []) ≡ mix xs ys
@@ -66,18 +68,14 @@ module _ (answer : Answer) where
           coloured a s ys xs (swapped a s xs ys both) .one-lit (answer a s ys) (rw (p, lit)),
         )
 
-pub mixing : StringOf 2 → Mixing
-mixing two = record {
-  accepted = λ a s xs ys both. rw (two-mixed a s xs ys both) at (two .accepted a s (length xs) (xs ∷ ys ∷ []) (two-lamps a s xs ys both));
-  photopic = one-unit _ (two .photopic);
-  scotopic = one-unit _ (two .scotopic);
-  photopic-10 = one-unit _ (two .photopic-10);
-  research-32 = one-unit _ (two .research-32);
-  research-40 = one-unit _ (two .research-40);
-  mesopic = λ k few. one-unit _ (two .mesopic k few);
-  xyz = λ o t. one-unit _ (two .xyz o t);
-  between = λ o t. both-lit _ (two .xy o t);
-  one-dark = λ o t. one-dark _ (two .xy o t);
-  uv-between = λ o t. both-lit _ (two .uv o t);
-  uv-one-dark = λ o t. one-dark _ (two .uv o t);
-}
+pub mixing : Mixing
+mixing =
+    let some : 1 ≤ 2 = omega arith in
+    record {
+      accepted = λ a s xs ys both.
+          rw (two-mixed a s xs ys both) at
+          (lamps-accepted 2 some a s (length xs) (xs ∷ ys ∷ []) (two-lamps a s xs ys both));
+      one-unit = amounts-of _ (λ answer sums. one-unit answer (halves 2 some answer sums));
+      both-lit = colours-of _ (λ answer over. both-lit answer (colours 2 some answer over));
+      one-dark = colours-of _ (λ answer over. one-dark answer (colours 2 some answer over));
+    }

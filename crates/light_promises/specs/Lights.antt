@@ -65,30 +65,31 @@ OneDark answer =
     (a s : ℕ) (xs ys : List ℕ) → Mixable a s xs ys → IsDark (answer a s xs) → (IsDark (answer a s ys) → ⊥) →
     (answer a s (mix xs ys) ≡ answer a s ys) × (answer a s (mix ys xs) ≡ answer a s ys)
 
--- mixing behaves, for each illuminance, for X, Y, Z, for x, y and for u′, v′
+-- each illuminance, and X, Y, Z
+pub record Amounts (Holds : Answer → Type 0) : Type 0 where
+  pub photopic : Holds (λ a s xs. saidReading (photopicOf a s xs))
+  pub scotopic : Holds (λ a s xs. saidReading (scotopicOf a s xs))
+  pub photopic-10 : Holds (λ a s xs. saidReading (photopic10Of a s xs))
+  pub research-32 : Holds (λ a s xs. saidReading (researchOf 32 a s xs))
+  pub research-40 : Holds (λ a s xs. saidReading (researchOf 40 a s xs))
+  pub mesopic : (k : ℕ) → k ≤ 1000 → Holds (λ a s xs. saidReading (mesopicOf k a s xs))
+  pub xyz : (o : ℕ) → isObserver o ≡ true → Holds (λ a s xs. saidXyz (xyzOf o a s xs))
+
+-- x, y and u′, v′
+pub record Colours (Holds : Answer → Type 0) : Type 0 where
+  pub xy : (o : ℕ) → isObserver o ≡ true → Holds (λ a s xs. saidXy (xyOf o a s xs))
+  pub uv : (o : ℕ) → isObserver o ≡ true → Holds (λ a s xs. saidUv (uvOf o a s xs))
+
+-- mixing behaves
 pub record Mixing : Type 0 where
   pub accepted : (a s : ℕ) (xs ys : List ℕ) → Mixable a s xs ys → lightCheck a s (mix xs ys) ≡ Fine
-  pub photopic : OneUnit (λ a s xs. saidReading (photopicOf a s xs))
-  pub scotopic : OneUnit (λ a s xs. saidReading (scotopicOf a s xs))
-  pub photopic-10 : OneUnit (λ a s xs. saidReading (photopic10Of a s xs))
-  pub research-32 : OneUnit (λ a s xs. saidReading (researchOf 32 a s xs))
-  pub research-40 : OneUnit (λ a s xs. saidReading (researchOf 40 a s xs))
-  pub mesopic : (k : ℕ) → k ≤ 1000 → OneUnit (λ a s xs. saidReading (mesopicOf k a s xs))
-  pub xyz : (o : ℕ) → isObserver o ≡ true → OneUnit (λ a s xs. saidXyz (xyzOf o a s xs))
-  pub between : (o : ℕ) → isObserver o ≡ true → BothLit (λ a s xs. saidXy (xyOf o a s xs))
-  pub one-dark : (o : ℕ) → isObserver o ≡ true → OneDark (λ a s xs. saidXy (xyOf o a s xs))
-  pub uv-between : (o : ℕ) → isObserver o ≡ true → BothLit (λ a s xs. saidUv (uvOf o a s xs))
-  pub uv-one-dark : (o : ℕ) → isObserver o ≡ true → OneDark (λ a s xs. saidUv (uvOf o a s xs))
+  pub one-unit : Amounts OneUnit
+  pub both-lit : Colours BothLit
+  pub one-dark : Colours OneDark
 
--- the order of the samples is kept by each illuminance and by X, Y, Z
-pub record Order : Type 0 where
-  pub photopic : InOrder (λ a s xs. saidReading (photopicOf a s xs))
-  pub scotopic : InOrder (λ a s xs. saidReading (scotopicOf a s xs))
-  pub photopic-10 : InOrder (λ a s xs. saidReading (photopic10Of a s xs))
-  pub research-32 : InOrder (λ a s xs. saidReading (researchOf 32 a s xs))
-  pub research-40 : InOrder (λ a s xs. saidReading (researchOf 40 a s xs))
-  pub mesopic : (k : ℕ) → k ≤ 1000 → InOrder (λ a s xs. saidReading (mesopicOf k a s xs))
-  pub xyz : (o : ℕ) → isObserver o ≡ true → InOrder (λ a s xs. saidXyz (xyzOf o a s xs))
+-- the order of the samples is kept
+abbrev pub Order : Type 0
+Order = Amounts InOrder
 
 -- no light where the curve has any weight
 abbrev pub Unlit : Curve → ℕ → ℕ → List ℕ → Type 0

@@ -1,21 +1,19 @@
 -- What is promised of whole strings of lamps: mixed light of any number of lights from one on, of which two are a case.
 use mathlib.Core.Path.{_≡_}
-use mathlib.Core.Bool.{true, cond}
+use mathlib.Core.Bool.{cond}
 use mathlib.Core.List.{List, [], _∷_, map}
 use Prim.Native.Nat.{ℕ, _/_, _≤_, _<_, min}
 use lib.Dec.{eqb}
 use lib.ListN.{length}
 use Rattle.grid.specs.Refusals.{DARK}
 use Rattle.grid.specs.declared.Check.the-variants.{Fine}
-use Rattle.grid.specs.Check.{Within, isObserver, lightCheck}
+use Rattle.grid.specs.Check.{Within, lightCheck}
 use Rattle.grid.specs.Said.{Said, value}
 use Rattle.mixing.specs.Sum.{sumOf}
 use Rattle.mixing.specs.Mixture.{mixture, Each, Rows}
 use Rattle.mixing.specs.Promises.{Differ}
 use Rattle.tables.specs.Column.{largest}
-use Rattle.answers.specs.Said.{saidReading, saidXyz, saidXy, saidUv}
-use Rattle.readings.specs.Readings.{photopicOf, scotopicOf, photopic10Of, researchOf, mesopicOf, xyzOf, xyOf, uvOf}
-use Rattle.light_promises.specs.Lights.{Answer, Between, dark}
+use Rattle.light_promises.specs.Lights.{Answer, Between, Amounts, Colours, dark}
 
 -- m accepted spectra on one grid of n samples, whose samples summed place by place stay within the limit
 pub record Lamps (m a s n : ℕ) (xss : List (List ℕ)) : Type 0 where
@@ -62,18 +60,11 @@ abbrev pub OfStrings : ℕ → (List Said → Said → Type 0) → Answer → Ty
 OfStrings m Holds answer =
     (a s n : ℕ) (xss : List (List ℕ)) → Lamps m a s n xss → Holds (map (answer a s) xss) (answer a s (mixture n xss))
 
--- a string of m lamps behaves, for each illuminance, for X, Y, Z, for x, y and for u′, v′
+-- a string of m lamps behaves
 pub record StringOf (m : ℕ) : Type 0 where
   pub accepted : (a s n : ℕ) (xss : List (List ℕ)) → Lamps m a s n xss → lightCheck a s (mixture n xss) ≡ Fine
-  pub photopic : OfStrings m HalfTheirNumber (λ a s xs. saidReading (photopicOf a s xs))
-  pub scotopic : OfStrings m HalfTheirNumber (λ a s xs. saidReading (scotopicOf a s xs))
-  pub photopic-10 : OfStrings m HalfTheirNumber (λ a s xs. saidReading (photopic10Of a s xs))
-  pub research-32 : OfStrings m HalfTheirNumber (λ a s xs. saidReading (researchOf 32 a s xs))
-  pub research-40 : OfStrings m HalfTheirNumber (λ a s xs. saidReading (researchOf 40 a s xs))
-  pub mesopic : (k : ℕ) → k ≤ 1000 → OfStrings m HalfTheirNumber (λ a s xs. saidReading (mesopicOf k a s xs))
-  pub xyz : (o : ℕ) → isObserver o ≡ true → OfStrings m HalfTheirNumber (λ a s xs. saidXyz (xyzOf o a s xs))
-  pub xy : (o : ℕ) → isObserver o ≡ true → OfStrings m Coloured (λ a s xs. saidXy (xyOf o a s xs))
-  pub uv : (o : ℕ) → isObserver o ≡ true → OfStrings m Coloured (λ a s xs. saidUv (uvOf o a s xs))
+  pub amounts : Amounts (OfStrings m HalfTheirNumber)
+  pub colours : Colours (OfStrings m Coloured)
 
 -- of any number of lamps from one on; a ceiling has up to 64
 pub record Strings : Type 0 where

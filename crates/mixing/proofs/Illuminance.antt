@@ -1,13 +1,13 @@
 -- Where the numerator is linear and the divisor fixed, the nearest quotient keeps to half a unit a row, and to the order.
 use mathlib.Core.List.{List, [], _∷_, map}
-use Prim.Native.Nat.{ℕ, _+_, _*_, _/_, _≤_, _<_}
+use Prim.Native.Nat.{ℕ, _+_, _*_, _≤_, _<_}
 use native.Mathlib.Nat.{le-refl, lt-of-mul-lt-mul-right}
 use native.Mathlib.Omega.{arith}
 use lib.ListN.{length}
 use Rattle.mixing.specs.Nearest.{nearest}
 use Rattle.mixing.specs.Sum.{sumOf}
 use Rattle.mixing.specs.Mixture.{mixture, Rows, Linear}
-use Rattle.mixing.specs.Promises.{Differ, Illuminance}
+use Rattle.mixing.specs.Promises.{Illuminance}
 use Rattle.mixing.proofs.Nearest.{le-nearest, nearest-lt}
 use Rattle.mixing.proofs.Mixture.{linear-order, linear-zeros, linear-mixture}
 
