@@ -16,9 +16,6 @@ from itertools import pairwise
 import light
 from light import DARK, LARGEST_SAMPLE, STEPS, Refused
 
-OBSERVERS = (2, 10)
-RESEARCH_OBSERVERS = (32, 40)
-
 # The greatest sample that 64 equal lamps may have.
 LARGEST_OF_64 = LARGEST_SAMPLE // 64
 
@@ -73,15 +70,15 @@ def amounts(readings, ks):
     yield ("10° photopic",), readings.photopic_10
     for k in ks:
         yield (f"mesopic at {k}",), partial(readings.mesopic, k)
-    for observer in RESEARCH_OBSERVERS:
+    for observer in light.RESEARCH_OBSERVERS:
         yield (f"research {observer}",), partial(readings.research, observer)
-    for observer in OBSERVERS:
+    for observer in light.OBSERVERS:
         yield tuple(f"{name} {observer}" for name in "XYZ"), partial(readings.xyz, observer)
 
 
 def colours(readings):
     """x, y and u', v', likewise."""
-    for observer in OBSERVERS:
+    for observer in light.OBSERVERS:
         yield (f"x {observer}", f"y {observer}"), partial(readings.xy, observer)
         yield (f"u' {observer}", f"v' {observer}"), partial(readings.uv, observer)
 

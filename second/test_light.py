@@ -8,7 +8,8 @@ import shutil
 import tempfile
 import unittest
 from fractions import Fraction
-from itertools import chain, combinations, product
+from functools import cache
+from itertools import chain, combinations, islice, product
 from math import exp, hypot
 from operator import add, mul
 from pathlib import Path
@@ -763,10 +764,14 @@ class Dark(unittest.TestCase):
 
 
 class Mixing(unittest.TestCase):
-    """Two lights on one grid, and their mixture: the samples summed place by place."""
+    """Two lights on one grid, which are a string of two lamps."""
+
+    # The same lights are looked at twice.
+    READINGS = strings.readings_of(light, cache)
+    KS = 0, 500, 1000
 
     def pairs(self):
-        """Start, step, and two rows with both ends lit and their mixture."""
+        """Start, step, and two rows with both ends lit."""
         draw = random.Random(7)
         cases = product(grids((300, 355, 361, 380)), (0, 1, 5, 39), (20, FULL // 2))
         for (start, step, count), lit, largest in cases:
@@ -774,7 +779,7 @@ class Mixing(unittest.TestCase):
             for row in (one, other):
                 for place in (0, *draw.sample(range(1, count - 1), lit), count - 1):
                     row[place] = draw.randint(1, largest)
-            yield start, step, (one, other, list(map(add, one, other)))
+            yield start, step, (tuple(one), tuple(other))
 
     def extremes(self):
         """Likewise, with samples that are none, the least or the most, so that some are dark."""
@@ -784,32 +789,26 @@ class Mixing(unittest.TestCase):
             mixed = [(0, 0)] * count
             for place in draw.sample(range(count), lit):
                 mixed[place] = draw.choice(shares)
-            one, other = map(list, zip(*mixed))
-            yield start, step, (one, other, list(map(add, one, other)))
+            yield start, step, tuple(zip(*mixed))
 
-    def amounts(self, *given):
-        """Each illuminance and each of X, Y, Z."""
-        return (
-            light.photopic(*given),
-            light.scotopic(*given),
-            light.photopic_10(*given),
-            *(light.mesopic(k, *given) for k in (0, 500, 1000)),
-            *(light.research(observer, *given) for observer in (32, 40)),
-            *light.xyz(2, *given),
-            *light.xyz(10, *given),
-        )
+    def with_a_dark_one(self):
+        """Likewise, each light of some pairs beside one that is lit only below 360, if at all."""
+        for start, step, pair in islice(self.pairs(), 0, None, 8):
+            for one in pair:
+                dark, _ = lit_below_360(start, step, len(one))
+                yield start, step, (one, tuple(dark))
 
-    def test_two_lights_are_a_string_of_lamps(self):
-        readings = strings.readings_of(light, lambda reading: reading)
-        for start, step, (one, other, _) in chain(self.pairs(), self.extremes()):
-            lamps = [tuple(one), tuple(other)]
-            self.assertEqual(strings.faults(readings, (0, 500, 1000), start, step, lamps), [])
+    def test_what_holds_of_a_string(self):
+        for start, step, rows in chain(self.pairs(), self.extremes(), self.with_a_dark_one()):
+            self.assertEqual(strings.faults(self.READINGS, self.KS, start, step, rows), [])
 
     def test_no_amount_of_a_light_is_above_the_mixture_s(self):
         for start, step, rows in self.pairs():
-            amounts = (self.amounts(start, step, row) for row in rows)
-            for a, b, mixed in zip(*amounts, strict=True):
-                self.assertLessEqual(max(a, b), mixed)
+            for names, reading in strings.amounts(self.READINGS, self.KS):
+                answers = (reading(start, step, row) for row in (*rows, strings.mixture_of(rows)))
+                one, other, mixed = (strings.by_name(names, answer) for answer in answers)
+                for name in names:
+                    self.assertLessEqual(max(one[name], other[name]), mixed[name])
 
 
 class Panels(unittest.TestCase):
