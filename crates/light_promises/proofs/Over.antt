@@ -23,7 +23,7 @@ use Rattle.light_promises.proofs.Passing.{Passing}
 use Rattle.light_promises.proofs.SumAt.{sumsOf, sumAt, none-linear, value-at}
 
 -- a sum that is linear, and 0 where the divisor is
-abbrev pub Part : ℕ → (List ℕ → ℕ) → (List ℕ → ℕ) → Type 0
+abbrev Part : ℕ → (List ℕ → ℕ) → (List ℕ → ℕ) → Type 0
 Part n D N = Linear n N × ((xs : List ℕ) → D xs ≡ 0 → N xs ≡ 0)
 
 -- an answer that is, of rows that pass a check, such sums over a linear one
