@@ -1,6 +1,6 @@
 -- Laws of the definitions of `page`.
 pub mod Joined
 pub mod Digits
-pub mod Room
+pub mod Unpacked
 pub mod Small
 pub mod Length

@@ -34,12 +34,12 @@ pub fn write_report(bytes: &[u8], text: &mut [u8]) -> ReportWritten
     ReportWritten::Written(length as u32)
 }
 
-// A record's figures, or its refusal.
+// A record's figures, or its refusal. Its samples are checked where the figures are made, and not twice.
 fn recorded_figures(bytes: &[u8]) -> FiguresAnswer
     ensures { λ r. ⌜ r ≡ recordedFigures (now (bytes .entry)) ⌝ }
 {
     let mut row = [0u32; 531];
-    match record::read_record(bytes, &mut row) {
+    match record::unpack_record(bytes, &mut row) {
         RecordRead::Read(said) => {
             let count = said.count as usize;
             readings::figures::figures(said.start, said.step, &row[..count])

@@ -19,6 +19,7 @@ use Rattle.panel.proofs.panel_xy.Reads as panel-xy
 use Rattle.panel.proofs.panel_uv.Reads as panel-uv
 use Rattle.panel.proofs.panel_chart.Reads as panel-chart
 use Rattle.record.proofs.read_record.Reads as read-record
+use Rattle.record.proofs.unpack_record.Reads as unpack-record
 use Rattle.record.proofs.write_record.Reads as write-record
 use Rattle.page.proofs.write_report.Reads as write-report
 use Rattle.quailribbon.proofs.lights.qr_photopic.Reads as qr-photopic
@@ -111,6 +112,12 @@ one-read-record k a r q e f p s = same (p .0) (s .0)
 
 left-read-record : OneExit (λ e. e .1 .0 .now) read-record.Post
 left-read-record k a r q e f p s = same (p .1) (s .1)
+
+one-unpack-record : OneResult unpack-record.Post
+one-unpack-record k a r q e f p s = same (p .0) (s .0)
+
+left-unpack-record : OneExit (λ e. e .1 .0 .now) unpack-record.Post
+left-unpack-record k a r q e f p s = same (p .1) (s .1)
 
 one-write-record : OneResult write-record.Post
 one-write-record k a r q e f p s = same (p .0) (s .0)

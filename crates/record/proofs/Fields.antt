@@ -8,7 +8,7 @@ use lib.ListN.{length, take, drop, getD, replicate, length-replicate}
 use lib.Seq.{drop-cons, take-at, drop-drop, getD-append-add}
 use Rattle.record.specs.Bits.{num, cut, bitsOfBytes, Bytes}
 use Rattle.record.specs.Format.{headerWidths, bodyWidths, headerOf, fieldsOf, samplesOf, paddingOf, lengthOf}
-use Rattle.record.specs.Leaf.{threeAt}
+use Rattle.record.specs.Leaf.{threeAt, fourAt, firstOf, secondOf}
 use Rattle.record.proofs.Rows.{widthsSum-replicate, length-cut, cut-append, digits, cut-digits, getD-cut}
 use Rattle.record.proofs.Window.{number, front, window, three-number}
 
@@ -80,6 +80,33 @@ sample-window n k r t bytes h l e p q =
     ∙ ap (λ (bits : List ℕ). num (take 20 bits)) (drop-drop (20 * k) 24 (bitsOfBytes bytes) ∙ ap (λ (x : ℕ). drop x (bitsOfBytes bytes)) place)
     ∙ window 3 (3 + 5 * k / 2) r 20 t bytes h (omega arith) (omega arith)
     ∙ ap (λ (x : ℕ). x / 2 ^ t % 2 ^ 20) (three-number (3 + 5 * k / 2) bytes (omega arith))
+
+-- the two samples of a pair, out of the number that four of its five bytes make, and the fifth
+pub sample-pair :
+    (n j : ℕ) (bytes : List ℕ) → Bytes bytes → 2 * j + 1 < n → length bytes ≡ lengthOf n →
+    (firstOf (fourAt bytes (3 + 5 * j)) ≡ getD (samplesOf n bytes) (2 * j) 0)
+    × (secondOf (fourAt bytes (3 + 5 * j)) (getD bytes (3 + 5 * j + 4) 0) ≡ getD (samplesOf n bytes) (2 * j + 1) 0)
+sample-pair n j bytes h l e =
+    let at = 3 + 5 * j in
+    let here : 3 + 5 * (2 * j) / 2 ≡ at = omega arith in
+    let there : 3 + 5 * (2 * j + 1) / 2 ≡ at + 2 = omega arith in
+    let third : at + 2 + 1 ≡ at + 3 = omega arith in
+    let fourth : at + 2 + 2 ≡ at + 4 = omega arith in
+    let first = rw here at (sample-window n (2 * j) 0 4 bytes h (omega arith) e (omega arith) refl) in
+    let second = rw (there, third, fourth) at (sample-window n (2 * j + 1) 4 0 bytes h l e (omega arith) refl) in
+    (omega (arith, first, h at, h (at + 1), h (at + 2), h (at + 3)), omega (arith, second, h (at + 3), h (at + 4)))
+
+-- an odd last sample, out of the last three bytes
+pub sample-last :
+    (n : ℕ) (bytes : List ℕ) → Bytes bytes → length bytes ≡ lengthOf n → n % 2 ≡ 1 →
+    threeAt bytes (length bytes - 3) / 16 ≡ getD (samplesOf n bytes) (n - 1) 0
+sample-last n bytes h e odd =
+    let j = n / 2 in
+    let at = length bytes - 3 in
+    let even : n - 1 ≡ 2 * j = omega arith in
+    let here : 3 + 5 * (2 * j) / 2 ≡ at = omega arith in
+    let last = rw here at (sample-window n (2 * j) 0 4 bytes h (omega arith) e (omega arith) refl) in
+    rw even (omega (arith, last, h at, h (at + 1), h (at + 2)))
 
 -- the padding, where there is some, is the low half of the last byte
 pub padding-even : (n : ℕ) (bytes : List ℕ) → n % 2 ≡ 0 → paddingOf n bytes ≡ 0

@@ -1,4 +1,4 @@
--- What the header's check and the body's come to, test by test.
+-- What the checks of a record's header, shape and body come to, test by test.
 use mathlib.Core.Path.{_≡_}
 use mathlib.Core.Bool.{true, false}
 use mathlib.Core.List.{List}
@@ -7,11 +7,12 @@ use native.Mathlib.Omega.{arith}
 use borrow.Author.Tests.{le-leb, lt-leb, eq-eqb, ne-eqb, leb-true, eqb-true}
 use lib.ListN.{length}
 use lib.Dec.{leb, eqb}
-use Rattle.grid.specs.Refusals.{EDITION, RESERVED, LENGTH, PADDING}
+use Rattle.grid.specs.Refusals.{EDITION, RESERVED, LENGTH, PADDING, ROOM}
 use Rattle.grid.specs.Check.{require, refusal, gridCheck, samplesCheck}
 use Rattle.grid.specs.declared.Check.the-variants.{Fine, Refused}
 use Rattle.grid.proofs.Limit.{passed}
-use Rattle.record.specs.Answer.{headerCheck, bodyCheck}
+use Rattle.record.specs.Answer.{headerCheck, bodyCheck, roomCheck}
+use Rattle.record.specs.Leaf.{shapeCheck}
 use Rattle.record.specs.Format.{headerWidths, headerOf, stepOfCode, lengthOf, paddingOf, samplesOf, editionOf, reservedOf, startOf, stepOf, countOf}
 use Rattle.record.proofs.Rows.{digits}
 
@@ -36,18 +37,18 @@ module _ (bytes : List ℕ) (v : ℕ) (long : 3 ≤ length bytes) (e : headerOf 
   unfolding headerCheck
   header-passed p q = rw (le-leb 3 (length bytes) long, e, eq-eqb (v / 1048576 % 16) 1 (omega arith), eq-eqb (v / 1 % 2) 0 (omega arith))
 
-module _ (n : ℕ) (bytes : List ℕ) where
-  pub length-refused : (length bytes ≡ lengthOf n → ⊥) → bodyCheck n bytes ≡ Refused (refusal LENGTH 0)
-  unfolding bodyCheck
+module _ (n : ℕ) (bytes : List ℕ) (room : ℕ) where
+  pub length-refused : (length bytes ≡ lengthOf n → ⊥) → shapeCheck n bytes room ≡ Refused (refusal LENGTH 0)
+  unfolding shapeCheck
   length-refused h = rw (ne-eqb (length bytes) (lengthOf n) h)
 
-  pub padding-refused : length bytes ≡ lengthOf n → eqb (paddingOf n bytes) 0 ≡ false → bodyCheck n bytes ≡ Refused (refusal PADDING 0)
-  unfolding bodyCheck
+  pub padding-refused : length bytes ≡ lengthOf n → eqb (paddingOf n bytes) 0 ≡ false → shapeCheck n bytes room ≡ Refused (refusal PADDING 0)
+  unfolding shapeCheck
   padding-refused e h = rw (eq-eqb (length bytes) (lengthOf n) e, h)
 
-  pub body-passed : length bytes ≡ lengthOf n → eqb (paddingOf n bytes) 0 ≡ true → bodyCheck n bytes ≡ samplesCheck (samplesOf n bytes)
-  unfolding bodyCheck
-  body-passed e h = rw (eq-eqb (length bytes) (lengthOf n) e, h)
+  pub shape-passed : length bytes ≡ lengthOf n → eqb (paddingOf n bytes) 0 ≡ true → shapeCheck n bytes room ≡ roomCheck n room
+  unfolding shapeCheck
+  shape-passed e h = rw (eq-eqb (length bytes) (lengthOf n) e, h)
 
 -- what a check that is fine tells
 pub record HeaderFine (bytes : List ℕ) : Type 0 where
@@ -60,6 +61,10 @@ pub record BodyFine (n : ℕ) (bytes : List ℕ) : Type 0 where
   pub whole : length bytes ≡ lengthOf n
   pub padding : paddingOf n bytes ≡ 0
   pub samples : samplesCheck (samplesOf n bytes) ≡ Fine
+
+pub record ShapeFine (n : ℕ) (bytes : List ℕ) (room : ℕ) : Type 0 where
+  pub whole : length bytes ≡ lengthOf n
+  pub enough : n ≤ room
 
 pub header-fine : (bytes : List ℕ) → headerCheck bytes ≡ Fine → HeaderFine bytes
 unfolding headerCheck
@@ -86,4 +91,15 @@ body-fine n bytes e =
       whole = eqb-true (length bytes) (lengthOf n) (whole .0);
       padding = eqb-true (paddingOf n bytes) 0 (clear .0);
       samples = clear .1;
+    }
+
+pub shape-fine : (n : ℕ) (bytes : List ℕ) (room : ℕ) → shapeCheck n bytes room ≡ Fine → ShapeFine n bytes room
+unfolding shapeCheck
+shape-fine n bytes room e =
+    let whole = passed (eqb (length bytes) (lengthOf n)) (require (eqb (paddingOf n bytes) 0) PADDING (roomCheck n room)) (refusal LENGTH 0) e in
+    let clear = passed (eqb (paddingOf n bytes) 0) (roomCheck n room) (refusal PADDING 0) (whole .1) in
+    let enough = passed (leb n room) Fine (refusal ROOM 0) (clear .1) in
+    record {
+      whole = eqb-true (length bytes) (lengthOf n) (whole .0);
+      enough = leb-true n room (enough .0);
     }

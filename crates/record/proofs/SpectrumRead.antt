@@ -1,11 +1,13 @@
 -- What is read of an accepted record is the spectrum whose record it is.
 use mathlib.Core.Path.{_≡_, ap, ap₂, _∙_}
-use mathlib.Core.List.{List}
+use mathlib.Core.List.{List, _++_}
 use Prim.Native.Nat.{ℕ}
 use native.Mathlib.Omega.{arith}
 use lib.ListN.{length, take, drop}
 use lib.Seq.{take-at}
 use Rattle.grid.specs.Said.{Said}
+use Rattle.grid.specs.Check.{unless}
+use Rattle.grid.specs.declared.Check.{Check}
 use Rattle.grid.specs.declared.Check.the-variants.{Fine}
 use Rattle.grid.proofs.Light.{both-fine}
 use Rattle.record.specs.Format.{startOf, stepOf, countOf, samplesOf}
@@ -27,21 +29,32 @@ was-read (Read h) a s n e =
     rw (← start, ← step, ← count)
 was-read (Refused r) a s n e = absurd (let values = ap (λ (said : Said). said .values) e in let z : _≡_ {A = ℕ} 0 1 = cc in omega arith)
 
+-- a record that a check accepts, whatever else it looks at, and the row then
+module _ (check : Check) (bytes row : List ℕ) (h : Header)
+    (e : unless check Refused (Read (header (startOf bytes) (stepOf bytes) (countOf bytes))) ≡ Read h) where
+  pub told : (check ≡ Fine) × (h ≡ header (startOf bytes) (stepOf bytes) (countOf bytes))
+  told = answer-read check (header (startOf bytes) (stepOf bytes) (countOf bytes)) h e
+
+  pub count-told : h .count ≡ countOf bytes
+  count-told = ap (λ (g : Header). g .count) (told .1)
+
+  pub samples-told : take (h .count) (unless check (λ _. row) (samplesOf (countOf bytes) bytes ++ drop (countOf bytes) row)) ≡ samplesOf (countOf bytes) bytes
+  samples-told =
+      let n = countOf bytes in
+      rw (count-told, told .0) (take-at (samplesOf n bytes) (drop n row) n (samples-length n bytes))
+
+  pub spectrum-told :
+      {A : Type 0} (f : ℕ → ℕ → List ℕ → A) →
+      f (h .start) (h .step) (take (h .count) (unless check (λ _. row) (samplesOf (countOf bytes) bytes ++ drop (countOf bytes) row)))
+      ≡ f (startOf bytes) (stepOf bytes) (samplesOf (countOf bytes) bytes)
+  spectrum-told f = ap₂ (λ (g : Header) (xs : List ℕ). f (g .start) (g .step) xs) (told .1) samples-told
+
 -- a record that the reader accepts
 module _ (bytes row : List ℕ) (h : Header) (e : readAnswer bytes (length row) ≡ Read h) where
-  pub said : (readCheck bytes (length row) ≡ Fine) × (h ≡ header (startOf bytes) (stepOf bytes) (countOf bytes))
-  said = answer-read (readCheck bytes (length row)) (header (startOf bytes) (stepOf bytes) (countOf bytes)) h e
-
   pub fine : recordCheck bytes ≡ Fine
-  fine = both-fine (recordCheck bytes) (roomCheck (countOf bytes) (length row)) (said .0) .0
-
-  samples-read : take (h .count) (rowAfter bytes row) ≡ samplesOf (countOf bytes) bytes
-  samples-read =
-      let n = countOf bytes in
-      ap (λ (g : Header). take (g .count) (rowAfter bytes row)) (said .1)
-      ∙ rw (said .0) (take-at (samplesOf n bytes) (drop n row) n (samples-length n bytes))
+  fine = both-fine (recordCheck bytes) (roomCheck (countOf bytes) (length row)) (told (readCheck bytes (length row)) bytes row h e .0) .0
 
   pub same-spectrum :
       {A : Type 0} (f : ℕ → ℕ → List ℕ → A) →
       f (h .start) (h .step) (take (h .count) (rowAfter bytes row)) ≡ f (startOf bytes) (stepOf bytes) (samplesOf (countOf bytes) bytes)
-  same-spectrum f = ap₂ (λ (g : Header) (xs : List ℕ). f (g .start) (g .step) xs) (said .1) samples-read
+  same-spectrum = spectrum-told (readCheck bytes (length row)) bytes row h e

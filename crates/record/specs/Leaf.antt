@@ -1,12 +1,15 @@
 -- What the inner functions are said to give: no promise to a caller rests on the reading of these.
-use mathlib.Core.List.{List, _++_}
-use Prim.Native.Nat.{ℕ, _+_, _*_, _/_}
+use mathlib.Core.Path.{_≡_}
+use mathlib.Core.List.{List, [], _∷_, _++_}
+use Prim.Native.Nat.{ℕ, _+_, _*_, _/_, _%_, _<_}
 use lib.ListN.{length, take, drop, getD}
-use Rattle.grid.specs.Check.{unless, thenCheck}
+use lib.Dec.{eqb}
+use Rattle.grid.specs.Refusals.{LENGTH, PADDING}
+use Rattle.grid.specs.Check.{require, unless, thenCheck, samplesCheck}
 use Rattle.grid.specs.declared.Check.{Check}
 use Rattle.record.specs.Bits.{pack, cut, bytewise}
-use Rattle.record.specs.Format.{bodyWidths, bodyFields, startOf, stepOf, countOf, samplesOf}
-use Rattle.record.specs.Answer.{headerCheck, bodyCheck, roomCheck, header}
+use Rattle.record.specs.Format.{bodyWidths, bodyFields, startOf, stepOf, countOf, samplesOf, paddingOf, lengthOf}
+use Rattle.record.specs.Answer.{headerCheck, roomCheck, header}
 use Rattle.record.specs.declared.RecordRead.{RecordRead}
 use Rattle.record.specs.declared.RecordRead.the-variants.{Read, Refused}
 
@@ -18,6 +21,44 @@ stored row at vs = take at row ++ vs ++ drop (at + length vs) row
 abbrev pub threeAt : List ℕ → ℕ → ℕ
 threeAt bytes at = getD bytes at 0 * 65536 + getD bytes (at + 1) 0 * 256 + getD bytes (at + 2) 0
 
+-- the four bytes from a place on, as one number
+abbrev pub fourAt : List ℕ → ℕ → ℕ
+fourAt bytes at = threeAt bytes at * 256 + getD bytes (at + 3) 0
+
+-- two samples of 20 bits and five bytes: the first 32 bits are one number, and the last 8 the fifth byte
+abbrev pub firstOf : ℕ → ℕ
+firstOf number = number / 4096
+
+abbrev pub secondOf : ℕ → ℕ → ℕ
+secondOf number fifth = number % 4096 * 256 + fifth
+
+abbrev pub numberOf : ℕ → ℕ → ℕ
+numberOf first second = first * 4096 + second / 256
+
+abbrev pub fiveBytes : ℕ → ℕ → List ℕ
+fiveBytes number second = number / 16777216 ∷ number / 65536 % 256 ∷ number / 256 % 256 ∷ number % 256 ∷ second % 256 ∷ []
+
+-- of each two places of a row, up to m times two, the first has this and the second that
+abbrev pub PairsTo : ℕ → List ℕ → (ℕ → ℕ) → (ℕ → ℕ) → Type 0
+PairsTo m row this that = (j : ℕ) → j < m → (getD row (2 * j) 0 ≡ this j) × (getD row (2 * j + 1) 0 ≡ that j)
+
+-- each two places hold a number and a fifth byte of a record
+abbrev pub Gathered : List ℕ → List ℕ → Type 0
+Gathered bytes row = PairsTo (length row / 2) row (λ j. fourAt bytes (3 + 5 * j)) (λ j. getD bytes (3 + 5 * j + 4) 0)
+
+-- each fifth byte is one
+abbrev pub Small : List ℕ → Type 0
+Small row = (j : ℕ) → j < length row / 2 → getD row (2 * j + 1) 0 < 256
+
+-- each two places hold the two samples
+abbrev pub Split : List ℕ → List ℕ → Type 0
+Split row out =
+    PairsTo (length row / 2) out (λ j. firstOf (getD row (2 * j) 0)) (λ j. secondOf (getD row (2 * j) 0) (getD row (2 * j + 1) 0))
+
+-- each place has the number of two samples
+abbrev pub Joined : List ℕ → List ℕ → Type 0
+Joined xs numbers = (j : ℕ) → j < length xs / 2 → getD numbers j 0 ≡ numberOf (getD xs (2 * j) 0) (getD xs (2 * j + 1) 0)
+
 -- the bytes behind the header
 unfoldable pub bodyOf : List ℕ → List ℕ
 bodyOf xs = cut (bytewise ((5 * length xs + 1) / 2)) (pack (bodyWidths (length xs)) (bodyFields xs))
@@ -26,10 +67,24 @@ bodyOf xs = cut (bytewise ((5 * length xs + 1) / 2)) (pack (bodyWidths (length x
 abbrev pub headerAnswer : List ℕ → RecordRead
 headerAnswer bytes = unless (headerCheck bytes) Refused (Read (header (startOf bytes) (stepOf bytes) (countOf bytes)))
 
--- what is left to check behind the header
-abbrev pub restCheck : ℕ → List ℕ → ℕ → Check
-restCheck n bytes room = thenCheck (bodyCheck n bytes) (roomCheck n room)
+-- LENGTH, PADDING, ROOM of a record with n samples
+unfoldable pub shapeCheck : ℕ → List ℕ → ℕ → Check
+shapeCheck n bytes room = require (eqb (length bytes) (lengthOf n)) LENGTH (require (eqb (paddingOf n bytes) 0) PADDING (roomCheck n room))
 
--- the row then
-abbrev pub restRow : ℕ → List ℕ → List ℕ → List ℕ
-restRow n bytes row = unless (restCheck n bytes (length row)) (λ _. row) (samplesOf n bytes ++ drop n row)
+-- every check of reading a record but that of its samples
+unfoldable pub unpackCheck : List ℕ → ℕ → Check
+unpackCheck bytes room = thenCheck (headerCheck bytes) (shapeCheck (countOf bytes) bytes room)
+
+-- what it answers, and the row then
+abbrev pub unpackAnswer : List ℕ → ℕ → RecordRead
+unpackAnswer bytes room = unless (unpackCheck bytes room) Refused (Read (header (startOf bytes) (stepOf bytes) (countOf bytes)))
+
+abbrev pub rowUnpacked : List ℕ → List ℕ → List ℕ
+rowUnpacked bytes row = unless (unpackCheck bytes (length row)) (λ _. row) (samplesOf (countOf bytes) bytes ++ drop (countOf bytes) row)
+
+-- what is left to check of samples that are to be given, and the lent row then
+abbrev pub giveCheck : List ℕ → ℕ → Check
+giveCheck xs room = thenCheck (samplesCheck xs) (roomCheck (length xs) room)
+
+abbrev pub rowGiven : List ℕ → List ℕ → List ℕ
+rowGiven xs row = unless (giveCheck xs (length row)) (λ _. row) (xs ++ drop (length xs) row)

@@ -1,5 +1,4 @@
-// What stands behind the header: its length, its padding and its samples, checked and then copied.
-use crate::unpack::unpack;
+// What stands behind the header: its length and padding, checked, and its samples, checked and then copied.
 use grid::Check;
 use grid::refusals::LENGTH;
 use grid::refusals::PADDING;
@@ -9,7 +8,7 @@ ghost use mathlib.Core.List.{_++_};
 ghost use Prim.Native.Nat.{_≤_};
 ghost use lib.ListN.{length, drop};
 ghost use lib.Dec.{eqb};
-ghost use Rattle.record.specs.Leaf.{restCheck, restRow};
+ghost use Rattle.record.specs.Leaf.{shapeCheck, giveCheck, rowGiven};
 ghost use Rattle.record.specs.Format.{lengthOf, paddingOf};
 
 // The bytes of a record of so many samples.
@@ -20,11 +19,10 @@ pub fn length_of(count: usize) -> usize
     3 + (5 * count + 1) / 2
 }
 
-// LENGTH, PADDING, SAMPLE, ROOM, and then the samples.
-pub fn read_body(bytes: &[u8], count: usize, samples: &mut [u32]) -> Check
+// LENGTH, PADDING, and ROOM in a row for so many samples.
+pub fn check_shape(bytes: &[u8], count: usize, room: usize) -> Check
     requires { ⌜ (1 ≤ count) × (count ≤ 531) ⌝ }
-    ensures { λ r. ⌜ r ≡ restCheck count (now (bytes .entry)) (length (now (samples .entry))) ⌝ }
-    ensures { λ _. ⌜ now (samples .exit) ≡ restRow count (now (bytes .entry)) (now (samples .entry)) ⌝ }
+    ensures { λ r. ⌜ r ≡ shapeCheck count (now (bytes .entry)) room ⌝ }
 {
     if bytes.len() != length_of(count) {
         return grid::refused(LENGTH);
@@ -32,15 +30,9 @@ pub fn read_body(bytes: &[u8], count: usize, samples: &mut [u32]) -> Check
     if !padding_is_clear(bytes, count) {
         return grid::refused(PADDING);
     }
-    let mut row = [0u32; 531];
-    unpack(bytes, count, &mut row);
-    if let Check::Refused(refusal) = grid::check_samples(&row[..count]) {
-        return Check::Refused(refusal);
-    }
-    if samples.len() < count {
+    if room < count {
         return grid::refused(ROOM);
     }
-    copy_to_front(&row[..count], samples);
     Check::Fine
 }
 
@@ -53,6 +45,22 @@ fn padding_is_clear(bytes: &[u8], count: usize) -> bool
         return true;
     }
     bytes[bytes.len() - 1] % 16 == 0
+}
+
+// SAMPLE, ROOM, and then the samples to the front of the lent row.
+pub fn give(row: &[u32], samples: &mut [u32]) -> Check
+    requires { ⌜ length (now row) ≤ 531 ⌝ }
+    ensures { λ r. ⌜ r ≡ giveCheck (now (row .entry)) (length (now (samples .entry))) ⌝ }
+    ensures { λ _. ⌜ now (samples .exit) ≡ rowGiven (now (row .entry)) (now (samples .entry)) ⌝ }
+{
+    if let Check::Refused(refusal) = grid::check_samples(row) {
+        return Check::Refused(refusal);
+    }
+    if samples.len() < row.len() {
+        return grid::refused(ROOM);
+    }
+    copy_to_front(row, samples);
+    Check::Fine
 }
 
 // Copies a row to the front of another.

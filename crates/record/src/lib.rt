@@ -12,6 +12,7 @@ ghost use mathlib.Core.Path.{_≡_};
 ghost use lib.ListN.{length};
 ghost use Rattle.grid.specs.Check.{lightCheck};
 ghost use Rattle.record.specs.Answer.{readAnswer, rowAfter, writeAnswer, bytesAfter};
+ghost use Rattle.record.specs.Leaf.{unpackAnswer, rowUnpacked};
 
 // What a record's header says of its spectrum.
 pub struct Header {
@@ -33,18 +34,39 @@ pub enum RecordWritten {
 }
 
 // Reads a record's samples into the front of the lent row: LENGTH where under 3 bytes, EDITION, RESERVED, START, COUNT, LENGTH, PADDING,
-// SAMPLE, ROOM.
+// SAMPLE, ROOM. They are checked in a row of their own, since a refusal leaves the lent one as it was.
 pub fn read_record(bytes: &[u8], samples: &mut [u32]) -> RecordRead
     ensures { λ r. ⌜ r ≡ readAnswer (now (bytes .entry)) (length (now (samples .entry))) ⌝ }
     ensures { λ _. ⌜ now (samples .exit) ≡ rowAfter (now (bytes .entry)) (now (samples .entry)) ⌝ }
+{
+    let mut row = [0u32; 531];
+    let answer = unpack_record(bytes, &mut row);
+    let RecordRead::Read(said) = answer else {
+        return answer;
+    };
+    let count = said.count as usize;
+    match body::give(&row[..count], samples) {
+        Check::Fine => RecordRead::Read(said),
+        Check::Refused(refusal) => RecordRead::Refused(refusal),
+    }
+}
+
+// Unpacks a record, whatever its samples are, into the front of the lent row: LENGTH where under 3 bytes, EDITION, RESERVED, START, COUNT,
+// LENGTH, PADDING, ROOM.
+pub fn unpack_record(bytes: &[u8], row: &mut [u32]) -> RecordRead
+    ensures { λ r. ⌜ r ≡ unpackAnswer (now (bytes .entry)) (length (now (row .entry))) ⌝ }
+    ensures { λ _. ⌜ now (row .exit) ≡ rowUnpacked (now (bytes .entry)) (now (row .entry)) ⌝ }
 {
     let answer = head::read_header(bytes);
     let RecordRead::Read(said) = answer else {
         return answer;
     };
     let count = said.count as usize;
-    match body::read_body(bytes, count, samples) {
-        Check::Fine => RecordRead::Read(said),
+    match body::check_shape(bytes, count, row.len()) {
+        Check::Fine => {
+            unpack::unpack(bytes, &mut row[..count]);
+            RecordRead::Read(said)
+        }
         Check::Refused(refusal) => RecordRead::Refused(refusal),
     }
 }

@@ -1,39 +1,57 @@
-// The samples into a record's bytes.
+// The samples into a record's bytes, two into five at a time.
 use crate::triple::put_three;
 ghost use mathlib.Core.Path.{_≡_};
-ghost use mathlib.Core.List.{[], _∷_};
-ghost use Prim.Native.Nat.{_+_, _^_, _<_, _≤_};
+ghost use Prim.Native.Nat.{_+_, _*_, _/_, _≤_};
 ghost use lib.ListN.{length};
+ghost use lib.Seq.{paste};
 ghost use Rattle.grid.specs.Check.{Within};
-ghost use Rattle.record.specs.Bits.{cut, pack, bytewise};
 ghost use Rattle.record.specs.Format.{lengthOf};
-ghost use Rattle.record.specs.Leaf.{stored, bodyOf};
+ghost use Rattle.record.specs.Leaf.{stored, fiveBytes, bodyOf, Joined};
 
-// Stores the bytes behind the header: five for two samples, and three for an odd last one.
+// Stores the bytes behind the header: the pairs' five each, and three for an odd last sample.
 pub fn pack(samples: &[u32], bytes: &mut [u8])
     requires { ⌜ Within 1000000 (now samples) × (length (now samples) ≤ 531) × (lengthOf (length (now samples)) ≤ length (now bytes)) ⌝ }
     ensures { λ _. ⌜ now (bytes .exit) ≡ stored (now (bytes .entry)) 3 (bodyOf (now (samples .entry))) ⌝ }
 {
-    let mut k = 0;
-    let mut at = 3;
-    while k + 1 < samples.len() {
-        put_pair(bytes, at, samples[k], samples[k + 1]);
-        k += 2;
-        at += 5;
-    }
-    if k < samples.len() {
-        put_three(bytes, at, samples[k] * 16);
+    let mut numbers = [0u32; 265];
+    join(samples, &mut numbers);
+    put_pairs(samples, &numbers, bytes);
+    if samples.len() % 2 == 1 {
+        let last = samples.len() - 1;
+        put_three(bytes, 3 + 5 * (last / 2), samples[last] * 16);
     }
 }
 
-// Stores two samples in five bytes.
-fn put_pair(bytes: &mut [u8], at: usize, first: u32, second: u32)
-    requires { ⌜ (at + 5 ≤ length (now bytes)) × (first < 2 ^ 20) × (second < 2 ^ 20) ⌝ }
-    ensures { λ _. ⌜ now (bytes .exit) ≡ stored (now (bytes .entry)) at (cut (bytewise 5) (pack (20 ∷ 20 ∷ []) (first ∷ second ∷ []))) ⌝ }
+// Of each two samples, the first 32 of their 40 bits as one number, a pass that the machine takes several at a time.
+fn join(samples: &[u32], numbers: &mut [u32])
+    requires { ⌜ Within 1000000 (now samples) × (length (now samples) ≤ 531) × (length (now numbers) ≡ 265) ⌝ }
+    ensures { λ _. ⌜ Joined (now (samples .entry)) (now (numbers .exit)) ⌝ }
 {
-    bytes[at] = (first / 4096) as u8;
-    bytes[at + 1] = (first / 16 % 256) as u8;
-    bytes[at + 2] = (first % 16 * 16 + second / 65536) as u8;
-    bytes[at + 3] = (second / 256 % 256) as u8;
+    for j in 0..samples.len() / 2 {
+        let k = 2 * j;
+        numbers[j] = samples[k] * 4096 + samples[k + 1] / 256;
+    }
+}
+
+// Five bytes for each two samples, out of their number and the second one.
+fn put_pairs(samples: &[u32], numbers: &[u32], bytes: &mut [u8])
+    requires { ⌜ Within 1000000 (now samples) × (length (now samples) ≤ 531) × (lengthOf (length (now samples)) ≤ length (now bytes)) ⌝ }
+    requires { ⌜ (length (now numbers) ≡ 265) × Joined (now samples) (now numbers) ⌝ }
+    ensures { λ _. ⌜ now (bytes .exit) ≡ paste (now (bytes .entry)) 3 (bodyOf (now (samples .entry))) (5 * (length (now (samples .entry)) / 2)) ⌝ }
+{
+    for j in 0..samples.len() / 2 {
+        put_five(bytes, 3 + 5 * j, numbers[j], samples[2 * j + 1]);
+    }
+}
+
+// Four bytes of a number, which are one store since they are of one number, and the last of another.
+fn put_five(bytes: &mut [u8], at: usize, number: u32, second: u32)
+    requires { ⌜ at + 5 ≤ length (now bytes) ⌝ }
+    ensures { λ _. ⌜ now (bytes .exit) ≡ stored (now (bytes .entry)) at (fiveBytes number second) ⌝ }
+{
+    bytes[at] = (number / 16777216) as u8;
+    bytes[at + 1] = (number / 65536 % 256) as u8;
+    bytes[at + 2] = (number / 256 % 256) as u8;
+    bytes[at + 3] = (number % 256) as u8;
     bytes[at + 4] = (second % 256) as u8;
 }

@@ -1,29 +1,57 @@
-// The samples out of a record's bytes.
+// The samples out of a record's bytes, two out of five at a time.
 use crate::triple::three;
 ghost use mathlib.Core.Path.{_≡_};
-ghost use mathlib.Core.List.{_++_};
-ghost use Prim.Native.Nat.{_<_, _≤_};
-ghost use lib.ListN.{length, drop, getD};
+ghost use Prim.Native.Nat.{_+_, _≤_};
+ghost use lib.ListN.{length};
 ghost use Rattle.record.specs.Format.{lengthOf, samplesOf};
+ghost use Rattle.record.specs.Leaf.{fourAt, Gathered, Small, Split};
 
-// Fills the front of the row with the record's samples.
-pub fn unpack(bytes: &[u8], count: usize, row: &mut [u32])
-    requires { ⌜ (count ≤ 531) × (count ≤ length (now row)) × (length (now bytes) ≡ lengthOf count) ⌝ }
-    ensures { λ _. ⌜ now (row .exit) ≡ samplesOf count (now (bytes .entry)) ++ drop count (now (row .entry)) ⌝ }
+// Fills the row with the record's samples: the pairs, and an odd last one out of the last three bytes.
+pub fn unpack(bytes: &[u8], row: &mut [u32])
+    requires { ⌜ (length (now row) ≤ 531) × (length (now bytes) ≡ lengthOf (length (now row))) ⌝ }
+    ensures { λ _. ⌜ now (row .exit) ≡ samplesOf (length (now (row .entry))) (now (bytes .entry)) ⌝ }
 {
-    for k in 0..count {
-        row[k] = sample(bytes, count, k);
+    gather(bytes, row);
+    split(row);
+    if row.len() % 2 == 1 {
+        let last = row.len() - 1;
+        row[last] = three(bytes, bytes.len() - 3) / 16;
     }
 }
 
-// Sample k begins at bit 24 + 20k: at the beginning of a byte where k is even, in its middle where k is odd.
-fn sample(bytes: &[u8], count: usize, k: usize) -> u32
-    requires { ⌜ (k < count) × (count ≤ 531) × (length (now bytes) ≡ lengthOf count) ⌝ }
-    ensures { λ r. ⌜ r ≡ getD (samplesOf count (now (bytes .entry))) k 0 ⌝ }
+// The five bytes of each two samples into their two places: four as one number, and the fifth. Kept whole, the number is one load; a
+// sample taken from it here would make it four.
+fn gather(bytes: &[u8], row: &mut [u32])
+    requires { ⌜ (length (now row) ≤ 531) × (length (now bytes) ≡ lengthOf (length (now row))) ⌝ }
+    ensures { λ _. ⌜ Gathered (now (bytes .entry)) (now (row .exit)) ⌝ }
 {
-    let number = three(bytes, 3 + 5 * k / 2);
-    if k % 2 == 0 {
-        return number / 16;
+    for j in 0..row.len() / 2 {
+        let k = 2 * j;
+        let at = 3 + 5 * j;
+        row[k] = four(bytes, at);
+        row[k + 1] = bytes[at + 4] as u32;
     }
-    number % 1048576
+}
+
+// Four bytes as one number.
+fn four(bytes: &[u8], at: usize) -> u32
+    requires { ⌜ at + 4 ≤ length (now bytes) ⌝ }
+    ensures { λ r. ⌜ r ≡ fourAt (now (bytes .entry)) at ⌝ }
+{
+    three(bytes, at) * 256 + bytes[at + 3] as u32
+}
+
+// The number and the fifth byte made the two samples, a pass that the machine takes several at a time.
+fn split(row: &mut [u32])
+    requires { ⌜ (length (now row) ≤ 531) × Small (now row) ⌝ }
+    ensures { λ _. ⌜ Split (now (row .entry)) (now (row .exit)) ⌝ }
+{
+    for j in 0..row.len() / 2 {
+        let k = 2 * j;
+        let number = row[k];
+        let first = number / 4096;
+        let second = number % 4096 * 256 + row[k + 1];
+        row[k] = first;
+        row[k + 1] = second;
+    }
 }

@@ -1,107 +1,67 @@
--- The loop's invariant: k is even, and the bytes of the first k samples are stored; behind them nothing is changed.
-use mathlib.Core.Path.{refl, _∙_}
-use Prim.Native.Nat.{ℕ, _+_, _^_, _<_, _-_}
+-- The pairs' bytes are stored, and behind them an odd last sample's.
+use mathlib.Core.Path.{_≡_, ap₂, _∙_}
+use mathlib.Core.List.{List}
+use Prim.Native.Nat.{ℕ, _+_, _*_, _-_, _/_, _^_, _<_}
 use native.Mathlib.Omega.{arith}
 use lib.ListN.{length, getD}
-use lib.Seq.{paste-zero}
-use Rattle.record.specs.Leaf.{bodyOf}
-use Rattle.record.proofs.Turn.{SoFar, pair-turn, last-turn, no-last-turn}
+use Rattle.record.specs.Leaf.{stored}
+use Rattle.record.proofs.Packed.{threeBytes}
+use Rattle.record.proofs.Turn.{last-turn, no-last-turn}
+use borrow.Author.Needs.{needs}
 use Rattle.record.proofs.pack.pack.Statement.{statement}
 use Rattle.record.proofs.pack.pack.Tie as tie
 
-abbrev Inv-loop : tie.InvT-loop
-Inv-loop samples bytes₀ k₀ at₀ bytes k at = SoFar bytes₀ samples bytes k at
+abbrev begin : tie.After-put-pairs → tie.Start
+begin c = c .before .before .before .before .before .before .before .before
 
-abbrev μ-loop : tie.MeasureT-loop
-μ-loop samples bytes₀ k₀ at₀ bytes k at = length samples - k
+-- where an odd last sample is stored, the pairs were
+abbrev pairs : tie.After-put-three → tie.After-put-pairs
+pairs c = c .before .before .before .before .before .before
 
-abbrev begin : tie.At-loop Inv-loop μ-loop → tie.Start Inv-loop μ-loop
-begin c = c .before .before .before
-
--- the loop's state, from a turn of it and from behind it
-abbrev turned : tie.After-shared-slice-known3 Inv-loop μ-loop → tie.At-loop Inv-loop μ-loop
-turned c = c .before .before .before .before
-
-abbrev ended : tie.After-shared-slice-known4 Inv-loop μ-loop → tie.At-loop Inv-loop μ-loop
-ended c = c .before .before .before .before
-
-small : (c : tie.Start Inv-loop μ-loop) (i : ℕ) → getD (c .args .samples .now) i 0 < 2 ^ 20
+small : (c : tie.Start) (i : ℕ) → getD (c .args .samples .now) i 0 < 2 ^ 20
 small c i = omega (arith, c .pre .0 i)
 
-loop-holds : tie.Need-loop-holds Inv-loop μ-loop
-loop-holds c =
-    record {
-      some = omega arith;
-      even = refl;
-      place = refl;
-      packed = paste-zero (c .before .before .args .bytes .now) 3 (bodyOf (c .before .before .args .samples .now));
-      kept = refl;
-    }
+mul-put-three-3 : tie.Need-mul-put-three-3
+mul-put-three-3 c =
+    let start = c .before .before .before .before .before .before .before .before .before .before .before .before .before in
+    omega (arith, start .pre .0 (length (start .args .samples .now) - 1))
 
-put-pair-requires : tie.Need-put-pair-requires Inv-loop μ-loop
-put-pair-requires c κs =
-    let xs = begin (turned c) .pre .0 in
-    let k = turned c .loop .k in
-    (omega arith, omega (arith, xs k), omega (arith, xs (k + 1)))
-
-loop-again : tie.Need-loop-again Inv-loop μ-loop
-loop-again c =
-    let put = c .before .before in
-    let loop = turned (put .before) in
-    let start = begin loop in
-    record {
-      some = omega arith;
-      even = omega arith;
-      place = omega arith;
-      packed = put .put-pair .ensures ∙ pair-turn (small start) (start .pre .2) (loop .loop .inv) (omega arith);
-      kept = put .put-pair .kept .0 ∙ loop .loop .inv .kept;
-    }
-
-mul-put-three-2 : tie.Need-mul-put-three-2 Inv-loop μ-loop
-mul-put-three-2 c = omega (arith, begin (ended c) .pre .0 (ended c .loop .k))
-
-same-length : tie.Need-same-length Inv-loop μ-loop
-same-length c = let put = c .before .before in put .put-three .kept .0 ∙ ended (put .before) .loop .inv .kept
-
-returns : tie.Need-returns Inv-loop μ-loop
+returns : tie.Need-returns
 returns c =
     let put = c .before .before in
-    let loop = ended (put .before) in
-    let start = begin loop in
-    put .put-three .ensures ∙ last-turn (small start) (start .pre .2) (loop .loop .inv) (omega arith)
+    let start = begin (pairs put) in
+    let xs = start .args .samples .now in
+    let d = start .args .bytes .now in
+    let j = length xs / 2 in
+    let last : length xs - 1 ≡ 2 * j = omega arith in
+    let half : (length xs - 1) / 2 ≡ j = omega arith in
+    put .put-three .ensures
+    ∙ rw half (ap₂ (λ (b : List ℕ) (k : ℕ). stored b (3 + 5 * j) (threeBytes (getD xs k 0 * 16))) (pairs put .put-pairs .ensures) last)
+    ∙ last-turn d xs (small start) (start .pre .2) j (omega arith)
 
-same-length-2 : tie.Need-same-length-2 Inv-loop μ-loop
-same-length-2 c = c .before .before .loop .inv .kept
-
-returns-2 : tie.Need-returns-2 Inv-loop μ-loop
+returns-2 : tie.Need-returns-2
 returns-2 c =
-    let loop = c .before .before in
-    let start = begin loop in
-    no-last-turn (small start) (start .pre .2) (loop .loop .inv) (omega arith)
+    let put = c .before .before .before in
+    let start = begin put in
+    let xs = start .args .samples .now in
+    put .put-pairs .ensures ∙ no-last-turn (start .args .bytes .now) xs (small start) (start .pre .2) (length xs / 2) (omega arith)
 
 pub pack-spec : {M : Type 1} → statement M
 pack-spec =
     tie.close
     (tie.spec
-    Inv-loop
-    μ-loop
-    loop-holds
-    (λ c. omega arith)
-    (λ c. omega arith)
-    (λ c. omega arith)
-    (λ c. omega arith)
-    (λ c. omega arith)
-    (λ c. omega arith)
-    put-pair-requires
-    (λ c. omega arith)
-    (λ c. omega arith)
-    (λ c. omega arith)
-    loop-again
-    (λ c. omega arith)
-    (λ c. omega arith)
-    mul-put-three-2
-    (λ c κs. omega arith)
-    same-length
+    (λ c. search needs)
+    (λ c κs. search needs)
+    (λ c. search needs)
+    (λ c κs. search needs)
+    (λ c. search needs)
+    (λ c. search needs)
+    (λ c. search needs)
+    (λ c. search needs)
+    (λ c. search needs)
+    mul-put-three-3
+    (λ c κs. search needs)
+    (λ c. search needs)
     returns
-    same-length-2
+    (λ c. search needs)
     returns-2)
