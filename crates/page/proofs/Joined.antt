@@ -1,29 +1,14 @@
 -- Values that are stored one behind the other are stored as one row.
-use mathlib.Core.Path.{_≡_, refl, sym, ap, ap₂, _∙_}
+use mathlib.Core.Path.{_≡_, refl, ap, ap₂, _∙_}
 use mathlib.Core.List.{List, _++_}
 use Prim.Native.Nat.{ℕ, _+_, _≤_}
 use native.Mathlib.Nat.{zero-add}
 use native.Mathlib.Omega.{arith}
-use lib.ListN.{length, take, drop, length-append, length-take, length-drop}
-use lib.Seq.{paste, take-at, drop-at, take-length}
+use lib.ListN.{length, take, drop, length-append}
+use lib.Seq.{take-at}
 use Rattle.record.specs.Leaf.{stored}
-use Rattle.record.proofs.Store.{run-more}
-use Rattle.record.proofs.Turn.{paste-all}
+use Rattle.record.proofs.Store.{stored-more, stored-length}
 use Rattle.page.specs.Put.{Put}
-
-stored-more :
-    (d : List ℕ) (at : ℕ) (vs ws : List ℕ) → at ≤ length d → stored (stored d at vs) (at + length vs) ws ≡ stored d at (vs ++ ws)
-stored-more d at vs ws h =
-    let front : stored d at vs ≡ paste d at (vs ++ ws) (length vs) =
-    ap (λ (x : List ℕ). take at d ++ x ++ drop (at + length vs) d) (sym (take-at vs ws (length vs) refl)) in
-    let rest : take (length ws) (drop (length vs) (vs ++ ws)) ≡ ws =
-    ap (take (length ws)) (drop-at vs ws (length vs) refl) ∙ take-length ws in
-    ap (λ (x : List ℕ). stored x (at + length vs) ws) front
-    ∙ run-more d (vs ++ ws) at (length vs) (length ws) ws h (simp length-append (omega arith)) refl rest
-    ∙ paste-all d (vs ++ ws) at (length vs + length ws) (sym (length-append vs ws))
-
-stored-length : (d : List ℕ) (at : ℕ) (vs : List ℕ) → at + length vs ≤ length d → length (stored d at vs) ≡ length d
-stored-length d at vs h = simp (length-append, length-take, length-drop) (omega arith)
 
 pub joined :
     {a b c vs ws : List ℕ} {at end last : ℕ} → Put a at vs end b → Put b end ws last c → Put a at (vs ++ ws) last c

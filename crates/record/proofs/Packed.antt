@@ -10,29 +10,32 @@ use lib.Dec.{eqb}
 use lib.Seq.{take-at, take-all, drop-append-add}
 use Rattle.record.specs.Bits.{bitsOf, pack, cut, bytewise}
 use Rattle.record.specs.Format.{headerWidths, headerFields, bodyWidths, bodyFields, recordOf}
-use Rattle.record.specs.Leaf.{numberOf, fiveBytes, bodyOf}
+use Rattle.record.specs.Leaf.{numberOf, bodyOf}
 use Rattle.record.proofs.Rows.{Fit, none, more, length-pack, length-cut, pack-append, pack-whole, cut-number, cut-join}
 
--- two samples in five bytes, and one in three
+-- two samples in five bytes, and a number in three or four
 abbrev pub pairBytes : ℕ → ℕ → List ℕ
 pairBytes x y = cut (bytewise 5) (pack (20 ∷ 20 ∷ []) (x ∷ y ∷ []))
 
 abbrev pub threeBytes : ℕ → List ℕ
 threeBytes v = cut (bytewise 3) (bitsOf 24 v)
 
+abbrev pub fourBytes : ℕ → List ℕ
+fourBytes v = cut (bytewise 4) (bitsOf 32 v)
+
 -- the five bytes as they are stored: four of the number of the first 32 bits, and the second sample's last
-pub five-bytes : (x y : ℕ) → x < 2 ^ 20 → y < 2 ^ 20 → pairBytes x y ≡ fiveBytes (numberOf x y) y
+pub five-bytes : (x y : ℕ) → x < 2 ^ 20 → y < 2 ^ 20 → pairBytes x y ≡ fourBytes (numberOf x y) ++ (y % 256 ∷ [])
 five-bytes x y h l =
     let v = x * 2 ^ 20 + (y * 2 ^ 0 + 0) in
     let number = numberOf x y in
-    let a : v / 4294967296 % 256 ≡ number / 16777216 = omega arith in
+    let a : v / 4294967296 % 256 ≡ number / 16777216 % 256 = omega arith in
     let b : v / 16777216 % 256 ≡ number / 65536 % 256 = omega arith in
     let d : v / 65536 % 256 ≡ number / 256 % 256 = omega arith in
-    let e : v / 256 % 256 ≡ number % 256 = omega arith in
+    let e : v / 256 % 256 ≡ number / 1 % 256 = omega arith in
     let f : v / 1 % 256 ≡ y % 256 = omega arith in
     ap (cut (bytewise 5)) (pack-whole {ks = 20 ∷ 20 ∷ []} {vs = x ∷ y ∷ []} (more h (more l none)))
     ∙ cut-number (8 ∷ 8 ∷ 8 ∷ 8 ∷ 8 ∷ []) v
-    ∙ rw (a, b, d, e, f)
+    ∙ rw (cut-number (8 ∷ 8 ∷ 8 ∷ 8 ∷ []) number, a, b, d, e, f)
 
 body-pair : (x y : ℕ) (xs : List ℕ) → x < 2 ^ 20 → y < 2 ^ 20 → bodyOf (x ∷ y ∷ xs) ≡ pairBytes x y ++ bodyOf xs
 unfolding bodyOf

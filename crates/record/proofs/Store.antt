@@ -1,12 +1,12 @@
 -- A row that is stored to from its front on, and one into which values are stored in runs.
-use mathlib.Core.Path.{_≡_, sym, ap, ap₂, _∙_}
+use mathlib.Core.Path.{_≡_, refl, sym, ap, ap₂, _∙_}
 use mathlib.Core.List.{List, _++_, append-assoc}
 use Prim.Native.Nat.{ℕ, _+_, _≤_, _<_}
 use native.Mathlib.Nat.{zero-add}
 use native.Mathlib.Numerals.{add-one}
 use native.Mathlib.Omega.{arith}
-use lib.ListN.{length, take, drop, getD, set}
-use lib.Seq.{paste, paste-suc, take-paste, drop-paste, drop-drop, take-add}
+use lib.ListN.{length, take, drop, getD, set, length-append, length-take, length-drop}
+use lib.Seq.{paste, paste-suc, take-paste, drop-paste, drop-drop, take-add, take-at, drop-at, take-all, take-length}
 use Rattle.record.specs.Leaf.{stored}
 
 -- the first j of a row, and behind them what was there before: one more store
@@ -30,3 +30,23 @@ run-more d s at n m vs h l e f =
     ∙ append-assoc (take at d) (take n s) vs
     ∙ ap (λ (x : List ℕ). take at d ++ x) (ap (λ (x : List ℕ). take n s ++ x) (sym f) ∙ sym (take-add n m s)) in
     ap₂ (λ (x y : List ℕ). x ++ y) front back
+
+-- all of a row pasted is the row stored
+pub paste-all : (d s : List ℕ) (at n : ℕ) → n ≡ length s → paste d at s n ≡ stored d at s
+paste-all d s at n e =
+    ap₂ (λ (x : List ℕ) (k : ℕ). take at d ++ x ++ drop (at + k) d) (take-all n s (omega arith)) e
+
+-- values stored behind others are stored with them as one row
+pub stored-more :
+    (d : List ℕ) (at : ℕ) (vs ws : List ℕ) → at ≤ length d → stored (stored d at vs) (at + length vs) ws ≡ stored d at (vs ++ ws)
+stored-more d at vs ws h =
+    let front : stored d at vs ≡ paste d at (vs ++ ws) (length vs) =
+    ap (λ (x : List ℕ). take at d ++ x ++ drop (at + length vs) d) (sym (take-at vs ws (length vs) refl)) in
+    let rest : take (length ws) (drop (length vs) (vs ++ ws)) ≡ ws =
+    ap (take (length ws)) (drop-at vs ws (length vs) refl) ∙ take-length ws in
+    ap (λ (x : List ℕ). stored x (at + length vs) ws) front
+    ∙ run-more d (vs ++ ws) at (length vs) (length ws) ws h (simp length-append (omega arith)) refl rest
+    ∙ paste-all d (vs ++ ws) at (length vs + length ws) (sym (length-append vs ws))
+
+pub stored-length : (d : List ℕ) (at : ℕ) (vs : List ℕ) → at + length vs ≤ length d → length (stored d at vs) ≡ length d
+stored-length d at vs h = simp (length-append, length-take, length-drop) (omega arith)

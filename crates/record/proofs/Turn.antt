@@ -1,19 +1,29 @@
 -- What a turn of the packing adds: the bytes of one more pair, or of an odd last sample, behind those of j pairs.
-use mathlib.Core.Path.{_≡_, refl, ap, ap₂, _∙_}
-use mathlib.Core.List.{List, _++_}
-use Prim.Native.Nat.{ℕ, _+_, _*_, _/_, _^_, _≤_, _<_}
+use mathlib.Core.Path.{_≡_, sym, ap, _∙_}
+use mathlib.Core.List.{List, [], _∷_}
+use Prim.Native.Nat.{ℕ, _+_, _*_, _/_, _%_, _^_, _≤_, _<_}
 use native.Mathlib.Omega.{arith}
-use lib.ListN.{length, take, drop, getD}
-use lib.Seq.{paste, take-all}
+use lib.ListN.{length, take, drop, getD, set}
+use lib.Seq.{paste, sets-eq}
+use Rattle.record.specs.Bits.{bitsOf, bytewise}
 use Rattle.record.specs.Format.{lengthOf}
-use Rattle.record.specs.Leaf.{stored, numberOf, fiveBytes, bodyOf}
-use Rattle.record.proofs.Store.{run-more}
-use Rattle.record.proofs.Packed.{threeBytes, five-bytes, pair-at, last-at, length-body, length-three}
+use Rattle.record.specs.Leaf.{stored, numberOf, bodyOf}
+use Rattle.record.proofs.Rows.{length-cut}
+use Rattle.record.proofs.Store.{run-more, paste-all, stored-more, stored-length}
+use Rattle.record.proofs.Packed.{pairBytes, threeBytes, fourBytes, five-bytes, pair-at, last-at, length-body, length-pair, length-three}
 
--- all of a row pasted is the row stored
-pub paste-all : (d s : List ℕ) (at n : ℕ) → n ≡ length s → paste d at s n ≡ stored d at s
-paste-all d s at n e =
-    ap₂ (λ (x : List ℕ) (k : ℕ). take at d ++ x ++ drop (at + k) d) (take-all n s (omega arith)) e
+-- a pair's five bytes, as four of a number and one behind them
+pub two-stores :
+    (b : List ℕ) (at x y : ℕ) → x < 2 ^ 20 → y < 2 ^ 20 → at + 5 ≤ length b →
+    set (stored b at (fourBytes (numberOf x y))) (at + 4) (y % 256) ≡ stored b at (pairBytes x y)
+two-stores b at x y h l room =
+    let four = fourBytes (numberOf x y) in
+    let long : length four ≡ 4 = length-cut (bytewise 4) (bitsOf 32 (numberOf x y)) in
+    let kept = stored-length b at four (omega arith) in
+    sets-eq (y % 256 ∷ []) (stored b at four) (at + 4) (omega arith)
+    ∙ ap (λ (k : ℕ). stored (stored b at four) (at + k) (y % 256 ∷ [])) (sym long)
+    ∙ stored-more b at four (y % 256 ∷ []) (omega arith)
+    ∙ ap (stored b at) (sym (five-bytes x y h l))
 
 module _ (d xs : List ℕ) (small : (i : ℕ) → getD xs i 0 < 2 ^ 20) (room : lengthOf (length xs) ≤ length d) where
   -- a run of m more behind the bytes of j pairs
@@ -24,13 +34,12 @@ module _ (d xs : List ℕ) (small : (i : ℕ) → getD xs i 0 < 2 ^ 20) (room : 
 
   pub pair-turn :
       (j : ℕ) → j < length xs / 2 →
-      stored (paste d 3 (bodyOf xs) (5 * j)) (3 + 5 * j) (fiveBytes (numberOf (getD xs (2 * j) 0) (getD xs (2 * j + 1) 0)) (getD xs (2 * j + 1) 0)) ≡ paste d 3 (bodyOf xs) (5 * (j + 1))
+      stored (paste d 3 (bodyOf xs) (5 * j)) (3 + 5 * j) (pairBytes (getD xs (2 * j) 0) (getD xs (2 * j + 1) 0)) ≡ paste d 3 (bodyOf xs) (5 * (j + 1))
   pair-turn j h =
       let x = getD xs (2 * j) 0 in
       let y = getD xs (2 * j + 1) 0 in
       let e : 5 * j + 5 ≡ 5 * (j + 1) = omega arith in
-      let found = pair-at j xs small (omega arith) ∙ five-bytes x y (small (2 * j)) (small (2 * j + 1)) in
-      next-run j 5 (fiveBytes (numberOf x y) y) refl (omega arith) found
+      next-run j 5 (pairBytes x y) (length-pair x y) (omega arith) (pair-at j xs small (omega arith))
       ∙ ap (paste d 3 (bodyOf xs)) e
 
   pub last-turn :

@@ -1,6 +1,6 @@
 -- What the inner functions are said to give: no promise to a caller rests on the reading of these.
 use mathlib.Core.Path.{_≡_}
-use mathlib.Core.List.{List, [], _∷_, _++_}
+use mathlib.Core.List.{List, _++_}
 use Prim.Native.Nat.{ℕ, _+_, _*_, _/_, _%_, _<_}
 use lib.ListN.{length, take, drop, getD}
 use lib.Dec.{eqb}
@@ -34,9 +34,6 @@ secondOf number fifth = number % 4096 * 256 + fifth
 
 abbrev pub numberOf : ℕ → ℕ → ℕ
 numberOf first second = first * 4096 + second / 256
-
-abbrev pub fiveBytes : ℕ → ℕ → List ℕ
-fiveBytes number second = number / 16777216 ∷ number / 65536 % 256 ∷ number / 256 % 256 ∷ number % 256 ∷ second % 256 ∷ []
 
 -- of each two places of a row, up to m times two, the first has this and the second that
 abbrev pub PairsTo : ℕ → List ℕ → (ℕ → ℕ) → (ℕ → ℕ) → Type 0

@@ -1,7 +1,7 @@
 // The record's header: three bytes that are one number, and the fields in it.
 use crate::Header;
 use crate::RecordRead;
-use crate::triple::three;
+use crate::numbers::three;
 use grid::Check;
 use grid::Refusal;
 use grid::refusals::EDITION;

@@ -1,8 +1,8 @@
 // The packed record: a spectrum's start, step and samples in as few bits as they need.
 mod body;
 mod head;
+mod numbers;
 mod pack;
-mod triple;
 mod unpack;
 
 use grid::Check;
@@ -97,7 +97,7 @@ fn write_accepted(start: u32, step: u32, samples: &[u32], bytes: &mut [u8]) -> R
         });
     }
     let number = head::header_number(start, step, count);
-    triple::put_three(bytes, 0, number);
+    numbers::put_three(bytes, 0, number);
     pack::pack(samples, bytes);
     RecordWritten::Written(length as u32)
 }

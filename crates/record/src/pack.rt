@@ -1,12 +1,13 @@
 // The samples into a record's bytes, two into five at a time.
-use crate::triple::put_three;
+use crate::numbers::put_four;
+use crate::numbers::put_three;
 ghost use mathlib.Core.Path.{_≡_};
-ghost use Prim.Native.Nat.{_+_, _*_, _/_, _≤_};
+ghost use Prim.Native.Nat.{_*_, _/_, _≤_};
 ghost use lib.ListN.{length};
 ghost use lib.Seq.{paste};
 ghost use Rattle.grid.specs.Check.{Within};
 ghost use Rattle.record.specs.Format.{lengthOf};
-ghost use Rattle.record.specs.Leaf.{stored, fiveBytes, bodyOf, Joined};
+ghost use Rattle.record.specs.Leaf.{stored, bodyOf, Joined};
 
 // Stores the bytes behind the header: the pairs' five each, and three for an odd last sample.
 pub fn pack(samples: &[u32], bytes: &mut [u8])
@@ -33,25 +34,16 @@ fn join(samples: &[u32], numbers: &mut [u32])
     }
 }
 
-// Five bytes for each two samples, out of their number and the second one.
+// Five bytes for each two samples: their number's four, and the second one's last, which is read behind them, so that the four, being of
+// one number, are one store.
 fn put_pairs(samples: &[u32], numbers: &[u32], bytes: &mut [u8])
     requires { ⌜ Within 1000000 (now samples) × (length (now samples) ≤ 531) × (lengthOf (length (now samples)) ≤ length (now bytes)) ⌝ }
     requires { ⌜ (length (now numbers) ≡ 265) × Joined (now samples) (now numbers) ⌝ }
     ensures { λ _. ⌜ now (bytes .exit) ≡ paste (now (bytes .entry)) 3 (bodyOf (now (samples .entry))) (5 * (length (now (samples .entry)) / 2)) ⌝ }
 {
     for j in 0..samples.len() / 2 {
-        put_five(bytes, 3 + 5 * j, numbers[j], samples[2 * j + 1]);
+        let at = 3 + 5 * j;
+        put_four(bytes, at, numbers[j]);
+        bytes[at + 4] = (samples[2 * j + 1] % 256) as u8;
     }
-}
-
-// Four bytes of a number, which are one store since they are of one number, and the last of another.
-fn put_five(bytes: &mut [u8], at: usize, number: u32, second: u32)
-    requires { ⌜ at + 5 ≤ length (now bytes) ⌝ }
-    ensures { λ _. ⌜ now (bytes .exit) ≡ stored (now (bytes .entry)) at (fiveBytes number second) ⌝ }
-{
-    bytes[at] = (number / 16777216) as u8;
-    bytes[at + 1] = (number / 65536 % 256) as u8;
-    bytes[at + 2] = (number / 256 % 256) as u8;
-    bytes[at + 3] = (number % 256) as u8;
-    bytes[at + 4] = (second % 256) as u8;
 }

@@ -1,10 +1,11 @@
 // The samples out of a record's bytes, two out of five at a time.
-use crate::triple::three;
+use crate::numbers::four;
+use crate::numbers::three;
 ghost use mathlib.Core.Path.{_≡_};
-ghost use Prim.Native.Nat.{_+_, _≤_};
+ghost use Prim.Native.Nat.{_≤_};
 ghost use lib.ListN.{length};
 ghost use Rattle.record.specs.Format.{lengthOf, samplesOf};
-ghost use Rattle.record.specs.Leaf.{fourAt, Gathered, Small, Split};
+ghost use Rattle.record.specs.Leaf.{Gathered, Small, Split};
 
 // Fills the row with the record's samples: the pairs, and an odd last one out of the last three bytes.
 pub fn unpack(bytes: &[u8], row: &mut [u32])
@@ -31,14 +32,6 @@ fn gather(bytes: &[u8], row: &mut [u32])
         row[k] = four(bytes, at);
         row[k + 1] = bytes[at + 4] as u32;
     }
-}
-
-// Four bytes as one number.
-fn four(bytes: &[u8], at: usize) -> u32
-    requires { ⌜ at + 4 ≤ length (now bytes) ⌝ }
-    ensures { λ r. ⌜ r ≡ fourAt (now (bytes .entry)) at ⌝ }
-{
-    three(bytes, at) * 256 + bytes[at + 3] as u32
 }
 
 // The number and the fifth byte made the two samples, a pass that the machine takes several at a time.

@@ -1,4 +1,4 @@
-//! The packed record, read and written sample by sample.
+//! The packed record, read and written sample by sample, or by whatever unpacks and packs its samples.
 
 use super::refusal::*;
 use crate::answers::{RecordAnswer, Written};
@@ -7,15 +7,35 @@ const STEPS: [u32; 4] = [1, 2, 5, 10];
 pub const LARGEST_COUNT: usize = 531;
 
 pub fn read_record(record: &[u8], samples: &mut [u32]) -> RecordAnswer {
-    unpack(record, samples).unwrap_or_else(|Refusal { number, place }| RecordAnswer {
+    read(record, samples, unpack)
+}
+
+pub fn write_record(start: u32, step: u32, samples: &[u32], record: &mut [u8]) -> Written {
+    write(start, step, samples, record, pack)
+}
+
+/// The answer of reading, where `unpack` takes the samples out of the bytes behind the header.
+pub fn read(
+    record: &[u8],
+    samples: &mut [u32],
+    unpack: impl Fn(&[u8], &mut [u32]),
+) -> RecordAnswer {
+    accepted(record, samples, unpack).unwrap_or_else(|Refusal { number, place }| RecordAnswer {
         number,
         place,
         ..Default::default()
     })
 }
 
-pub fn write_record(start: u32, step: u32, samples: &[u32], record: &mut [u8]) -> Written {
-    match pack(start, step, samples, record) {
+/// The answer of writing, where `pack` puts the samples into the bytes behind the header.
+pub fn write(
+    start: u32,
+    step: u32,
+    samples: &[u32],
+    record: &mut [u8],
+    pack: impl Fn(&[u32], &mut [u8]),
+) -> Written {
+    match written(start, step, samples, record, pack) {
         Ok(length) => Written {
             length: length as u32,
             ..Default::default()
@@ -34,7 +54,11 @@ fn length(count: usize) -> usize {
 }
 
 /// The first of 12, 10, 11, 2, 3, 12, 13, 4, 14, or the samples put into the lent row.
-fn unpack(record: &[u8], samples: &mut [u32]) -> Result<RecordAnswer, Refusal> {
+fn accepted(
+    record: &[u8],
+    samples: &mut [u32],
+    unpack: impl Fn(&[u8], &mut [u32]),
+) -> Result<RecordAnswer, Refusal> {
     if record.len() < 3 {
         return Err(LENGTH);
     }
@@ -57,9 +81,7 @@ fn unpack(record: &[u8], samples: &mut [u32]) -> Result<RecordAnswer, Refusal> {
     }
     // An own row first: a refusal leaves the lent one as it is.
     let mut row = [0; LARGEST_COUNT];
-    for (i, sample) in row[..count].iter_mut().enumerate() {
-        *sample = sample_at(record, i);
-    }
+    unpack(&record[3..], &mut row[..count]);
     check_samples(&row[..count])?;
     samples
         .get_mut(..count)
@@ -74,10 +96,16 @@ fn unpack(record: &[u8], samples: &mut [u32]) -> Result<RecordAnswer, Refusal> {
     })
 }
 
+fn unpack(body: &[u8], row: &mut [u32]) {
+    for (i, sample) in row.iter_mut().enumerate() {
+        *sample = sample_at(body, i);
+    }
+}
+
 /// Sample i: 20 bits that lie in three bytes, from the first or from the middle of the first.
-fn sample_at(record: &[u8], i: usize) -> u32 {
-    let at = 3 + 5 * i / 2;
-    let three = &record[at..at + 3];
+fn sample_at(body: &[u8], i: usize) -> u32 {
+    let at = 5 * i / 2;
+    let three = &body[at..at + 3];
     let bits = u32::from_be_bytes([0, three[0], three[1], three[2]]);
     if i % 2 == 0 {
         bits >> 4
@@ -87,7 +115,13 @@ fn sample_at(record: &[u8], i: usize) -> u32 {
 }
 
 /// The first of 1, 2, 3, 4, 14, or the length of the record put into the lent bytes.
-fn pack(start: u32, step: u32, samples: &[u32], record: &mut [u8]) -> Result<usize, Refusal> {
+fn written(
+    start: u32,
+    step: u32,
+    samples: &[u32],
+    record: &mut [u8],
+    pack: impl Fn(&[u32], &mut [u8]),
+) -> Result<usize, Refusal> {
     check_grid(start, step, samples.len())?;
     check_samples(samples)?;
     let length = length(samples.len());
@@ -95,9 +129,14 @@ fn pack(start: u32, step: u32, samples: &[u32], record: &mut [u8]) -> Result<usi
     let code = STEPS.iter().position(|&each| each == step).ok_or(STEP)? as u32;
     let header = 1 << 20 | code << 18 | (start - 300) << 11 | (samples.len() as u32) << 1;
     record[..3].copy_from_slice(&header.to_be_bytes()[1..]);
+    pack(samples, &mut record[3..]);
+    Ok(length)
+}
+
+fn pack(samples: &[u32], body: &mut [u8]) {
     for (i, &sample) in samples.iter().enumerate() {
-        let at = 3 + 5 * i / 2;
-        let three = &mut record[at..at + 3];
+        let at = 5 * i / 2;
+        let three = &mut body[at..at + 3];
         if i % 2 == 0 {
             three[0] = (sample >> 12) as u8;
             three[1] = (sample >> 4) as u8;
@@ -108,5 +147,4 @@ fn pack(start: u32, step: u32, samples: &[u32], record: &mut [u8]) -> Result<usi
             three[2] = sample as u8;
         }
     }
-    Ok(length)
 }

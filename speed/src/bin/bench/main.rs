@@ -1,7 +1,7 @@
 //! Times the library against the straightforward implementation and against plain dot products.
 //!
 //!     bench                                    prints the tables
-//!     bench count NAME ours|straight ROUNDS    runs one task only, for callgrind
+//!     bench count NAME LIBRARY ROUNDS          runs one task only, for callgrind: ours, straight or pairs
 //!
 //! `valgrind --tool=callgrind --toggle-collect='*counted*' bench count figures ours 1` collects the
 //! instructions of the rounds alone, each of 2,000 items.
@@ -11,12 +11,15 @@ mod work;
 use std::env;
 use std::process::ExitCode;
 use std::time::Instant;
-use work::{Library, Task, Work, FIGURES, ITEMS, OURS, REPORT, STRAIGHT, TASKS};
+use work::{Library, Task, Work, FIGURES, ITEMS, OURS, PAIRS, READING, REPORT, STRAIGHT, TASKS};
 
 /// Each time is the best of so many rounds.
 const ROUNDS: usize = 25;
 
 const NS_A_SECOND: f64 = 1e9;
+
+/// At most this many times reading a record and making its figures.
+const REPORT_TARGET: f64 = 1.15;
 
 const STEPS: [u32; 4] = [1, 2, 5, 10];
 
@@ -26,6 +29,8 @@ fn main() -> ExitCode {
     match arguments[..] {
         [] => {
             print_speed();
+            print_pairs();
+            print_report();
             print_steps();
             print_growth();
             return ExitCode::SUCCESS;
@@ -35,6 +40,7 @@ fn main() -> ExitCode {
             let library = match library {
                 "ours" => Some(&OURS),
                 "straight" => Some(&STRAIGHT),
+                "pairs" => Some(&PAIRS),
                 _ => None,
             };
             if let (Some(task), Some(library), Ok(rounds)) = (task, library, rounds.parse()) {
@@ -46,7 +52,7 @@ fn main() -> ExitCode {
     }
     let names: Vec<&str> = TASKS.iter().map(|task| task.name).collect();
     eprintln!(
-        "bench\nbench count {} ours|straight ROUNDS",
+        "bench\nbench count {} ours|straight|pairs ROUNDS",
         names.join("|")
     );
     ExitCode::from(2)
@@ -102,6 +108,38 @@ fn print_speed() {
         }
     }
     println!("\nRecords that a core reads and reports in a second: {reports_a_second:.0}");
+}
+
+/// Records beside a twin that takes two samples at a time too.
+fn print_pairs() {
+    let work = Work::new(380, 1, 401);
+    println!("\nBeside a straightforward twin that takes pairs too; ns for one\n");
+    println!("                                 ours     pairs     ours/pairs  target");
+    for task in &TASKS {
+        let Some(target) = task.pairs_target else {
+            continue;
+        };
+        let [ours, pairs] = best([&mut || (task.round)(&OURS, &work), &mut || {
+            (task.round)(&PAIRS, &work)
+        }]);
+        let ratio = ours / pairs;
+        println!(
+            "{:27}{ours:10.0}{pairs:10.0}{ratio:15.2}{target:8.2}",
+            task.says
+        );
+    }
+}
+
+/// The report beside its two parts.
+fn print_report() {
+    let work = Work::new(380, 1, 401);
+    let [reading, figures, report] = best([
+        &mut || (READING.round)(&OURS, &work),
+        &mut || (FIGURES.round)(&OURS, &work),
+        &mut || (REPORT.round)(&OURS, &work),
+    ]);
+    let ratio = report / (reading + figures);
+    println!("\nA report over reading its record and making its figures: {ratio:.2}, target {REPORT_TARGET:.2}");
 }
 
 /// The figures at each step, over one range, beside the straightforward ones.

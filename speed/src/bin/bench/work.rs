@@ -21,7 +21,7 @@ pub struct Library {
     panel_figures: fn(u32, u32, u32, u32, &[u16]) -> PanelFiguresAnswer,
 }
 
-pub static OURS: Library = Library {
+pub const OURS: Library = Library {
     read_record: ffi::read_record,
     write_record: ffi::write_record,
     figures: ffi::figures,
@@ -30,13 +30,20 @@ pub static OURS: Library = Library {
     panel_figures: ffi::panel_figures,
 };
 
-pub static STRAIGHT: Library = Library {
+pub const STRAIGHT: Library = Library {
     read_record: straight::read_record,
     write_record: straight::write_record,
     figures: straight::figures,
     chart: straight::chart,
     report: straight::report,
     panel_figures: straight::panel_figures,
+};
+
+/// The straightforward twin where it takes two samples of a record at a time, as the library does.
+pub const PAIRS: Library = Library {
+    read_record: straight::pairs::read_record,
+    write_record: straight::pairs::write_record,
+    ..STRAIGHT
 };
 
 /// Lights, their records, and panels, all on one grid.
@@ -78,16 +85,19 @@ pub struct Task {
     pub says: &'static str,
     /// At most this part of the straightforward time.
     pub target: Option<f64>,
+    /// At most this part of the time of the twin that takes pairs, for a task in which there are some.
+    pub pairs_target: Option<f64>,
     pub round: fn(&Library, &Work),
     pub dot: Option<fn(&Work)>,
 }
 
 pub static TASKS: [Task; 6] = [READING, WRITING, FIGURES, CHART, REPORT, PANEL];
 
-const READING: Task = Task {
+pub const READING: Task = Task {
     name: "reading",
     says: "reading a record",
     target: Some(1.00),
+    pairs_target: Some(0.80),
     round: |library, work| {
         let mut row = [0; 531];
         for record in &work.records {
@@ -102,6 +112,7 @@ const WRITING: Task = Task {
     name: "writing",
     says: "writing a record",
     target: Some(1.00),
+    pairs_target: Some(0.70),
     round: |library, work| {
         let mut record = [0; 1331];
         for light in &work.lights {
@@ -117,6 +128,7 @@ pub const FIGURES: Task = Task {
     name: "figures",
     says: "seven figures of a spectrum",
     target: Some(0.60),
+    pairs_target: None,
     round: |library, work| {
         for light in &work.lights {
             let (start, step) = black_box((work.start, work.step));
@@ -136,6 +148,7 @@ const CHART: Task = Task {
     name: "chart",
     says: "a point on the chart",
     target: None,
+    pairs_target: None,
     round: |library, work| {
         for light in &work.lights {
             let (start, step) = black_box((work.start, work.step));
@@ -149,6 +162,7 @@ pub const REPORT: Task = Task {
     name: "report",
     says: "the report of a record",
     target: None,
+    pairs_target: None,
     round: |library, work| {
         let mut text = [0; 200];
         for record in &work.records {
@@ -165,6 +179,7 @@ const PANEL: Task = Task {
     name: "panel",
     says: "a panel, X, Y, Z and x, y",
     target: Some(0.60),
+    pairs_target: None,
     round: |library, work| {
         for panel in &work.panels {
             let (start, step) = black_box((work.start, work.step));

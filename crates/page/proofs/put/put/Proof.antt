@@ -6,7 +6,7 @@ use native.Mathlib.Numerals.{add-one}
 use native.Mathlib.Omega.{arith}
 use lib.ListN.{length, getD, set, length-set}
 use lib.Seq.{paste, paste-zero, paste-suc}
-use Rattle.record.proofs.Turn.{paste-all}
+use Rattle.record.proofs.Store.{paste-all}
 use Rattle.page.proofs.put.put.Statement.{statement}
 use Rattle.page.proofs.put.put.Tie as tie
 

@@ -1,12 +1,13 @@
 -- The loop's invariant: the bytes of the first j pairs are stored, and behind them nothing is changed.
-use mathlib.Core.Path.{_≡_, refl, ap₂, _∙_}
+use mathlib.Core.Path.{_≡_, refl, sym, ap, ap₂, _∙_}
 use mathlib.Core.List.{List}
-use Prim.Native.Nat.{ℕ, _+_, _*_, _-_, _/_, _^_, _≤_, _<_}
+use Prim.Native.Nat.{ℕ, _+_, _*_, _-_, _/_, _%_, _^_, _≤_, _<_}
 use native.Mathlib.Omega.{arith}
-use lib.ListN.{length, getD}
+use lib.ListN.{length, getD, set, length-set}
 use lib.Seq.{paste, paste-zero}
-use Rattle.record.specs.Leaf.{stored, fiveBytes, bodyOf}
-use Rattle.record.proofs.Turn.{pair-turn}
+use Rattle.record.specs.Leaf.{stored, numberOf, bodyOf}
+use Rattle.record.proofs.Turn.{two-stores, pair-turn}
+use Rattle.record.proofs.Packed.{fourBytes}
 use Rattle.record.proofs.pack.put_pairs.Statement.{statement}
 use Rattle.record.proofs.pack.put_pairs.Tie as tie
 
@@ -20,20 +21,37 @@ abbrev μ-loop : tie.MeasureT-loop
 loop-holds : tie.Need-loop-holds Inv-loop μ-loop
 loop-holds c = let given = c .before .before .before .args in (omega arith, paste-zero (given .bytes .now) 3 (bodyOf (given .samples .now)), refl)
 
+abbrev turn : tie.After-put-four Inv-loop μ-loop → tie.At-loop Inv-loop μ-loop
+turn c = c .before .before .before .before
+
+abbrev begin : tie.At-loop Inv-loop μ-loop → tie.Start Inv-loop μ-loop
+begin c = c .before .before .before .before
+
+slice-write-bytes : tie.Need-slice-write-bytes Inv-loop μ-loop
+slice-write-bytes c = let put = c .before .before .before in omega (arith, put .put-four .kept .0)
+
 loop-again : tie.Need-loop-again Inv-loop μ-loop
 loop-again c =
-    let put = c .before .before in
-    let loop = put .before .before .before .before .before .loop in
-    let start = put .before .before .before .before .before .before .before .before .before in
+    let put = c .before .before .before in
+    let loop = turn put .loop in
+    let start = begin (turn put) in
     let xs = start .args .samples .now in
     let d = start .args .bytes .now in
     let j = loop .j in
+    let at = 3 + 5 * j in
+    let x = getD xs (2 * j) 0 in
+    let y = getD xs (2 * j + 1) 0 in
+    let so-far = paste d 3 (bodyOf xs) (5 * j) in
     let small : (i : ℕ) → getD xs i 0 < 2 ^ 20 = λ i. omega (arith, start .pre .0 .0 i) in
-    let stores : put .put-five .last .0 ≡ paste d 3 (bodyOf xs) (5 * (j + 1)) =
-    put .put-five .ensures
-    ∙ ap₂ (λ (b : List ℕ) (v : ℕ). stored b (3 + 5 * j) (fiveBytes v (getD xs (2 * j + 1) 0))) (loop .inv .1) (start .pre .1 .1 j (omega arith))
-    ∙ pair-turn d xs small (start .pre .0 .2) j (omega arith) in
-    (omega arith, stores, put .put-five .kept .0 ∙ loop .inv .2)
+    let long : length so-far ≡ length d = ap length (sym (loop .inv .1)) ∙ loop .inv .2 in
+    let four : put .put-four .last .0 ≡ stored so-far at (fourBytes (numberOf x y)) =
+    put .put-four .ensures ∙ ap₂ (λ (b : List ℕ) (v : ℕ). stored b at (fourBytes v)) (loop .inv .1) (start .pre .1 .1 j (omega arith)) in (
+      omega arith,
+      ap (λ (b : List ℕ). set b (at + 4) (y % 256)) four
+          ∙ two-stores so-far at x y (small (2 * j)) (small (2 * j + 1)) (omega arith)
+          ∙ pair-turn d xs small (start .pre .0 .2) j (omega arith),
+      simp length-set (put .put-four .kept .0 ∙ loop .inv .2),
+    )
 
 returns : tie.Need-returns Inv-loop μ-loop
 returns c =
@@ -53,11 +71,14 @@ put-pairs-spec =
     (λ c. omega arith)
     (λ c. omega arith)
     (λ c. omega arith)
-    (λ c. omega arith)
-    (λ c. omega arith)
-    (λ c. omega arith)
-    (λ c. omega arith)
     (λ c κs. omega arith)
+    (λ c. omega arith)
+    (λ c. omega arith)
+    (λ c. omega arith)
+    (λ c. omega arith)
+    (λ c. omega arith)
+    (λ c. omega arith)
+    slice-write-bytes
     (λ c. omega arith)
     (λ c. omega arith)
     loop-again

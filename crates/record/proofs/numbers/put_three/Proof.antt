@@ -8,8 +8,8 @@ use Prim.Native.Nat.{suc, _+_, _/_, _%_}
 use native.Mathlib.Nat.{div-one}
 use Rattle.record.proofs.Rows.{cut-number}
 use borrow.Author.Needs.{needs}
-use Rattle.record.proofs.triple.put_three.Statement.{statement}
-use Rattle.record.proofs.triple.put_three.Tie as tie
+use Rattle.record.proofs.numbers.put_three.Statement.{statement}
+use Rattle.record.proofs.numbers.put_three.Tie as tie
 
 slice-write-bytes-2 : tie.Need-slice-write-bytes-2
 slice-write-bytes-2 c = simp length-set (omega arith)
