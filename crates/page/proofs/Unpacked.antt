@@ -8,7 +8,6 @@ use Rattle.grid.specs.declared.Refusal.{Refusal}
 use Rattle.grid.specs.declared.Check.{Check}
 use Rattle.grid.specs.declared.Check.the-variants.{Fine, Refused}
 use Rattle.record.specs.Format.{startOf, stepOf, countOf, samplesOf}
-use Rattle.record.specs.Answer.{recordCheck}
 use Rattle.record.specs.Leaf.{unpackCheck}
 use Rattle.record.proofs.Fields.{samples-length}
 use Rattle.record.proofs.Reading.{unpack-fine, record-split}

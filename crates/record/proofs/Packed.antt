@@ -23,6 +23,15 @@ threeBytes v = cut (bytewise 3) (bitsOf 24 v)
 abbrev pub fourBytes : ℕ → List ℕ
 fourBytes v = cut (bytewise 4) (bitsOf 32 v)
 
+-- four bytes are three and one behind them
+pub four-bytes : (v : ℕ) → threeBytes (v / 256) ++ (v % 256 ∷ []) ≡ fourBytes v
+four-bytes v =
+    let a : v / 256 / 65536 % 256 ≡ v / 16777216 % 256 = omega arith in
+    let b : v / 256 / 256 % 256 ≡ v / 65536 % 256 = omega arith in
+    let d : v / 256 / 1 % 256 ≡ v / 256 % 256 = omega arith in
+    let e : v % 256 ≡ v / 1 % 256 = omega arith in
+    rw (cut-number (8 ∷ 8 ∷ 8 ∷ []) (v / 256), cut-number (8 ∷ 8 ∷ 8 ∷ 8 ∷ []) v, a, b, d, e)
+
 -- the five bytes as they are stored: four of the number of the first 32 bits, and the second sample's last
 pub five-bytes : (x y : ℕ) → x < 2 ^ 20 → y < 2 ^ 20 → pairBytes x y ≡ fourBytes (numberOf x y) ++ (y % 256 ∷ [])
 five-bytes x y h l =
@@ -62,6 +71,9 @@ length-pair x y = length-cut (bytewise 5) (pack (20 ∷ 20 ∷ []) (x ∷ y ∷ 
 
 pub length-three : (v : ℕ) → length (threeBytes v) ≡ 3
 length-three v = length-cut (bytewise 3) (bitsOf 24 v)
+
+pub length-four : (v : ℕ) → length (fourBytes v) ≡ 4
+length-four v = length-cut (bytewise 4) (bitsOf 32 v)
 
 -- the j-th five bytes are those of the j-th two samples
 pub pair-at :

@@ -1,12 +1,12 @@
 -- A row that is stored to from its front on, and one into which values are stored in runs.
 use mathlib.Core.Path.{_≡_, refl, sym, ap, ap₂, _∙_}
-use mathlib.Core.List.{List, _++_, append-assoc}
+use mathlib.Core.List.{List, [], _∷_, _++_, append-assoc}
 use Prim.Native.Nat.{ℕ, _+_, _≤_, _<_}
 use native.Mathlib.Nat.{zero-add}
 use native.Mathlib.Numerals.{add-one}
 use native.Mathlib.Omega.{arith}
 use lib.ListN.{length, take, drop, getD, set, length-append, length-take, length-drop}
-use lib.Seq.{paste, paste-suc, take-paste, drop-paste, drop-drop, take-add, take-at, drop-at, take-all, take-length}
+use lib.Seq.{paste, paste-suc, take-paste, drop-paste, drop-drop, take-add, take-at, drop-at, take-all, take-length, sets-eq}
 use Rattle.record.specs.Leaf.{stored}
 
 -- the first j of a row, and behind them what was there before: one more store
@@ -50,3 +50,13 @@ stored-more d at vs ws h =
 
 pub stored-length : (d : List ℕ) (at : ℕ) (vs : List ℕ) → at + length vs ≤ length d → length (stored d at vs) ≡ length d
 stored-length d at vs h = simp (length-append, length-take, length-drop) (omega arith)
+
+-- and one value behind k others
+pub store-more :
+    (d : List ℕ) (at k : ℕ) (vs : List ℕ) (v : ℕ) → length vs ≡ k → at + k < length d →
+    set (stored d at vs) (at + k) v ≡ stored d at (vs ++ (v ∷ []))
+store-more d at k vs v e h =
+    let kept = stored-length d at vs (omega arith) in
+    sets-eq (v ∷ []) (stored d at vs) (at + k) (omega arith)
+    ∙ ap (λ (j : ℕ). stored (stored d at vs) (at + j) (v ∷ [])) (sym e)
+    ∙ stored-more d at vs (v ∷ []) (omega arith)

@@ -1,29 +1,22 @@
 -- What a turn of the packing adds: the bytes of one more pair, or of an odd last sample, behind those of j pairs.
 use mathlib.Core.Path.{_≡_, sym, ap, _∙_}
-use mathlib.Core.List.{List, [], _∷_}
+use mathlib.Core.List.{List}
 use Prim.Native.Nat.{ℕ, _+_, _*_, _/_, _%_, _^_, _≤_, _<_}
 use native.Mathlib.Omega.{arith}
 use lib.ListN.{length, take, drop, getD, set}
-use lib.Seq.{paste, sets-eq}
-use Rattle.record.specs.Bits.{bitsOf, bytewise}
+use lib.Seq.{paste}
 use Rattle.record.specs.Format.{lengthOf}
 use Rattle.record.specs.Leaf.{stored, numberOf, bodyOf}
-use Rattle.record.proofs.Rows.{length-cut}
-use Rattle.record.proofs.Store.{run-more, paste-all, stored-more, stored-length}
-use Rattle.record.proofs.Packed.{pairBytes, threeBytes, fourBytes, five-bytes, pair-at, last-at, length-body, length-pair, length-three}
+use Rattle.record.proofs.Store.{run-more, paste-all, store-more}
+use Rattle.record.proofs.Packed.{pairBytes, threeBytes, fourBytes, five-bytes, pair-at, last-at, length-body, length-pair, length-three, length-four}
 
 -- a pair's five bytes, as four of a number and one behind them
 pub two-stores :
     (b : List ℕ) (at x y : ℕ) → x < 2 ^ 20 → y < 2 ^ 20 → at + 5 ≤ length b →
     set (stored b at (fourBytes (numberOf x y))) (at + 4) (y % 256) ≡ stored b at (pairBytes x y)
 two-stores b at x y h l room =
-    let four = fourBytes (numberOf x y) in
-    let long : length four ≡ 4 = length-cut (bytewise 4) (bitsOf 32 (numberOf x y)) in
-    let kept = stored-length b at four (omega arith) in
-    sets-eq (y % 256 ∷ []) (stored b at four) (at + 4) (omega arith)
-    ∙ ap (λ (k : ℕ). stored (stored b at four) (at + k) (y % 256 ∷ [])) (sym long)
-    ∙ stored-more b at four (y % 256 ∷ []) (omega arith)
-    ∙ ap (stored b at) (sym (five-bytes x y h l))
+    let number = numberOf x y in
+    store-more b at 4 (fourBytes number) (y % 256) (length-four number) (omega arith) ∙ ap (stored b at) (sym (five-bytes x y h l))
 
 module _ (d xs : List ℕ) (small : (i : ℕ) → getD xs i 0 < 2 ^ 20) (room : lengthOf (length xs) ≤ length d) where
   -- a run of m more behind the bytes of j pairs

@@ -38,8 +38,6 @@ pub fn put_four(bytes: &mut [u8], at: usize, number: u32)
     requires { ⌜ at + 4 ≤ length (now bytes) ⌝ }
     ensures { λ _. ⌜ now (bytes .exit) ≡ stored (now (bytes .entry)) at (cut (bytewise 4) (bitsOf 32 number)) ⌝ }
 {
-    bytes[at] = (number / 16777216) as u8;
-    bytes[at + 1] = (number / 65536 % 256) as u8;
-    bytes[at + 2] = (number / 256 % 256) as u8;
+    put_three(bytes, at, number / 256);
     bytes[at + 3] = (number % 256) as u8;
 }
