@@ -69,7 +69,7 @@ pub five-halves : (k : ℕ) → (5 * k / 2 ≡ 5 * (k / 2) + 2 * (k % 2)) × ((5
 five-halves k = rw (div-add-mod' k 2) at (halves (k / 2) (k % 2) (omega arith))
 
 -- sample k lies in the three bytes from 3 + 5k/2 on, behind no bit of theirs or behind four
-pub sample-window :
+sample-window :
     (n k r t : ℕ) (bytes : List ℕ) → Bytes bytes → k < n → length bytes ≡ lengthOf n → 4 * (k % 2) ≡ r → r + t ≡ 4 →
     getD (samplesOf n bytes) k 0 ≡ threeAt bytes (3 + 5 * k / 2) / 2 ^ t % 2 ^ 20
 sample-window n k r t bytes h l e p q =

@@ -30,7 +30,7 @@ was-read (Read h) a s n e =
 was-read (Refused r) a s n e = absurd (let values = ap (λ (said : Said). said .values) e in let z : _≡_ {A = ℕ} 0 1 = cc in omega arith)
 
 -- a record that a check accepts, whatever else it looks at, and the row then
-module _ (check : Check) (bytes row : List ℕ) (h : Header)
+module _ (check : Check) (bytes : List ℕ) (h : Header)
     (e : unless check Refused (Read (header (startOf bytes) (stepOf bytes) (countOf bytes))) ≡ Read h) where
   pub told : (check ≡ Fine) × (h ≡ header (startOf bytes) (stepOf bytes) (countOf bytes))
   told = answer-read check (header (startOf bytes) (stepOf bytes) (countOf bytes)) h e
@@ -38,23 +38,25 @@ module _ (check : Check) (bytes row : List ℕ) (h : Header)
   pub count-told : h .count ≡ countOf bytes
   count-told = ap (λ (g : Header). g .count) (told .1)
 
-  pub samples-told : take (h .count) (unless check (λ _. row) (samplesOf (countOf bytes) bytes ++ drop (countOf bytes) row)) ≡ samplesOf (countOf bytes) bytes
-  samples-told =
+  pub samples-told :
+      (row : List ℕ) →
+      take (h .count) (unless check (λ _. row) (samplesOf (countOf bytes) bytes ++ drop (countOf bytes) row)) ≡ samplesOf (countOf bytes) bytes
+  samples-told row =
       let n = countOf bytes in
       rw (count-told, told .0) (take-at (samplesOf n bytes) (drop n row) n (samples-length n bytes))
 
   pub spectrum-told :
-      {A : Type 0} (f : ℕ → ℕ → List ℕ → A) →
+      (row : List ℕ) {A : Type 0} (f : ℕ → ℕ → List ℕ → A) →
       f (h .start) (h .step) (take (h .count) (unless check (λ _. row) (samplesOf (countOf bytes) bytes ++ drop (countOf bytes) row)))
       ≡ f (startOf bytes) (stepOf bytes) (samplesOf (countOf bytes) bytes)
-  spectrum-told f = ap₂ (λ (g : Header) (xs : List ℕ). f (g .start) (g .step) xs) (told .1) samples-told
+  spectrum-told row f = ap₂ (λ (g : Header) (xs : List ℕ). f (g .start) (g .step) xs) (told .1) (samples-told row)
 
 -- a record that the reader accepts
 module _ (bytes row : List ℕ) (h : Header) (e : readAnswer bytes (length row) ≡ Read h) where
   pub fine : recordCheck bytes ≡ Fine
-  fine = both-fine (recordCheck bytes) (roomCheck (countOf bytes) (length row)) (told (readCheck bytes (length row)) bytes row h e .0) .0
+  fine = both-fine (recordCheck bytes) (roomCheck (countOf bytes) (length row)) (told (readCheck bytes (length row)) bytes h e .0) .0
 
   pub same-spectrum :
       {A : Type 0} (f : ℕ → ℕ → List ℕ → A) →
       f (h .start) (h .step) (take (h .count) (rowAfter bytes row)) ≡ f (startOf bytes) (stepOf bytes) (samplesOf (countOf bytes) bytes)
-  same-spectrum = spectrum-told (readCheck bytes (length row)) bytes row h e
+  same-spectrum = spectrum-told (readCheck bytes (length row)) bytes h e row

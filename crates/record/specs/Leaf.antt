@@ -1,4 +1,4 @@
--- What the inner functions are said to give: no promise to a caller rests on the reading of these.
+-- What the inner functions are said to give, and the unpacking below the reader: no promise to a caller rests on the reading of these.
 use mathlib.Core.Path.{_≡_}
 use mathlib.Core.List.{List, _++_}
 use Prim.Native.Nat.{ℕ, _+_, _*_, _/_, _%_, _<_}
@@ -43,7 +43,7 @@ PairsTo m row this that = (j : ℕ) → j < m → (getD row (2 * j) 0 ≡ this j
 abbrev pub Gathered : List ℕ → List ℕ → Type 0
 Gathered bytes row = PairsTo (length row / 2) row (λ j. fourAt bytes (3 + 5 * j)) (λ j. getD bytes (3 + 5 * j + 4) 0)
 
--- each fifth byte is one
+-- each second place holds a byte
 abbrev pub Small : List ℕ → Type 0
 Small row = (j : ℕ) → j < length row / 2 → getD row (2 * j + 1) 0 < 256
 
@@ -72,7 +72,7 @@ shapeCheck n bytes room = require (eqb (length bytes) (lengthOf n)) LENGTH (requ
 unfoldable pub unpackCheck : List ℕ → ℕ → Check
 unpackCheck bytes room = thenCheck (headerCheck bytes) (shapeCheck (countOf bytes) bytes room)
 
--- what it answers, and the row then
+-- what unpacking answers, and the row then
 abbrev pub unpackAnswer : List ℕ → ℕ → RecordRead
 unpackAnswer bytes room = unless (unpackCheck bytes room) Refused (Read (header (startOf bytes) (stepOf bytes) (countOf bytes)))
 

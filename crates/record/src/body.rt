@@ -19,7 +19,7 @@ pub fn length_of(count: usize) -> usize
     3 + (5 * count + 1) / 2
 }
 
-// LENGTH, PADDING, and ROOM in a row for so many samples.
+// LENGTH, PADDING, and ROOM where a row has fewer places than there are samples.
 pub fn check_shape(bytes: &[u8], count: usize, room: usize) -> Check
     requires { ⌜ (1 ≤ count) × (count ≤ 531) ⌝ }
     ensures { λ r. ⌜ r ≡ shapeCheck count (now (bytes .entry)) room ⌝ }

@@ -21,7 +21,7 @@ pub struct Header {
     pub count: u32,
 }
 
-// What reading a record gives.
+// What reading or unpacking a record gives.
 pub enum RecordRead {
     Read(Header),
     Refused(Refusal),
@@ -34,7 +34,7 @@ pub enum RecordWritten {
 }
 
 // Reads a record's samples into the front of the lent row: LENGTH where under 3 bytes, EDITION, RESERVED, START, COUNT, LENGTH, PADDING,
-// SAMPLE, ROOM. They are checked in a row of their own, since a refusal leaves the lent one as it was.
+// SAMPLE, ROOM. The samples are checked in an own row, since a refusal leaves the lent one as it was.
 pub fn read_record(bytes: &[u8], samples: &mut [u32]) -> RecordRead
     ensures { λ r. ⌜ r ≡ readAnswer (now (bytes .entry)) (length (now (samples .entry))) ⌝ }
     ensures { λ _. ⌜ now (samples .exit) ≡ rowAfter (now (bytes .entry)) (now (samples .entry)) ⌝ }

@@ -1,4 +1,4 @@
-// Three or four bytes as one number, read and stored.
+// Three or four bytes as one number, most significant first, read and stored.
 ghost use mathlib.Core.Path.{_≡_};
 ghost use Prim.Native.Nat.{_+_, _^_, _≤_, _<_};
 ghost use lib.ListN.{length};

@@ -34,8 +34,8 @@ fn join(samples: &[u32], numbers: &mut [u32])
     }
 }
 
-// Five bytes for each two samples: their number's four, and the second one's last, which is read behind them, so that the four, being of
-// one number, are one store.
+// Five bytes for each two samples: their number's four, and the second one's last. That is taken after the four are stored, which so are
+// one store.
 fn put_pairs(samples: &[u32], numbers: &[u32], bytes: &mut [u8])
     requires { ⌜ Within 1000000 (now samples) × (length (now samples) ≤ 531) × (lengthOf (length (now samples)) ≤ length (now bytes)) ⌝ }
     requires { ⌜ (length (now numbers) ≡ 265) × Joined (now samples) (now numbers) ⌝ }

@@ -20,8 +20,8 @@ pub fn unpack(bytes: &[u8], row: &mut [u32])
     }
 }
 
-// The five bytes of each two samples into their two places: four as one number, and the fifth. Kept whole, the number is one load; a
-// sample taken from it here would make it four.
+// The five bytes of each two samples into their two places: four as one number, and the fifth. Kept whole, the number is one load; were
+// a sample taken from it here, it would be four.
 fn gather(bytes: &[u8], row: &mut [u32])
     requires { ⌜ (length (now row) ≤ 531) × (length (now bytes) ≡ lengthOf (length (now row))) ⌝ }
     ensures { λ _. ⌜ Gathered (now (bytes .entry)) (now (row .exit)) ⌝ }

@@ -1,4 +1,5 @@
-//! The packed record, read and written two samples at a time: of their five bytes, four are one number.
+//! The packed record, read and written two samples at a time: of their five bytes, four are one number. The checks are those
+//! of the twin that takes one at a time, which looks for a fault at each sample by itself.
 
 use super::record::{read, write};
 use crate::answers::{RecordAnswer, Written};

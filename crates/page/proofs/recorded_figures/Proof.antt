@@ -34,8 +34,8 @@ answer c = sym (c .before .before .before .unpack-record .ensures .0) ∙ c .sai
 
 count-fits : (c : tie.After-said) → head c .count ≤ length (c .before .before .before .unpack-record .last .1 .0)
 count-fits c =
-    let fine = told (unpackCheck (bytes c) 531) (bytes c) lent (head c) (answer c) .0 in
-    let count = count-told (unpackCheck (bytes c) 531) (bytes c) lent (head c) (answer c) in
+    let fine = told (unpackCheck (bytes c) 531) (bytes c) (head c) (answer c) .0 in
+    let count = count-told (unpackCheck (bytes c) 531) (bytes c) (head c) (answer c) in
     omega (arith, count, count-most (bytes c) (unpack-fine (bytes c) 531 fine .0), c .before .before .before .unpack-record .kept .1 .0)
 
 array-share-prefix-row : tie.Need-array-share-prefix-row
@@ -50,8 +50,8 @@ returns c =
     let check = unpackCheck (bytes read) 531 in
     c .figures .ensures
     ∙ ap (λ (xs : List ℕ). figuresOf (head read .start) (head read .step) (take (head read .count) xs)) (read .before .before .before .unpack-record .ensures .1)
-    ∙ spectrum-told check (bytes read) lent (head read) (answer read) figuresOf
-    ∙ sym (unpacked-figures (bytes read) (told check (bytes read) lent (head read) (answer read) .0))
+    ∙ spectrum-told check (bytes read) (head read) (answer read) lent figuresOf
+    ∙ sym (unpacked-figures (bytes read) (told check (bytes read) (head read) (answer read) .0))
 
 returns-2 : tie.Need-returns-2
 returns-2 c =

@@ -39,16 +39,16 @@ answer : (c : tie.After-answer) → unpackAnswer (bytes c) 531 ≡ read.Read (sa
 answer c = sym (unpacked c .unpack-record .ensures .0) ∙ c .answer .given .1
 
 fine : (c : tie.After-answer) → (unpackCheck (bytes c) 531 ≡ Fine) × (said c ≡ header (startOf (bytes c)) (stepOf (bytes c)) (countOf (bytes c)))
-fine c = told (unpackCheck (bytes c) 531) (bytes c) lent (said c) (answer c)
+fine c = told (unpackCheck (bytes c) 531) (bytes c) (said c) (answer c)
 
 -- the row's first count are the record's samples
 row : (c : tie.After-answer) → take (said c .count) (unpacked c .unpack-record .last .1 .0) ≡ samples c
 row c =
     ap (take (said c .count)) (unpacked c .unpack-record .ensures .1)
-    ∙ samples-told (unpackCheck (bytes c) 531) (bytes c) lent (said c) (answer c)
+    ∙ samples-told (unpackCheck (bytes c) 531) (bytes c) (said c) (answer c) lent
 
 count : (c : tie.After-answer) → said c .count ≡ countOf (bytes c)
-count c = count-told (unpackCheck (bytes c) 531) (bytes c) lent (said c) (answer c)
+count c = count-told (unpackCheck (bytes c) 531) (bytes c) (said c) (answer c)
 
 few : (c : tie.After-answer) → countOf (bytes c) ≤ 531
 few c = count-most (bytes c) (unpack-fine (bytes c) 531 (fine c .0) .0)

@@ -40,7 +40,7 @@ fn main() -> ExitCode {
             let library = match library {
                 "ours" => Some(&OURS),
                 "straight" => Some(&STRAIGHT),
-                "pairs" => Some(&PAIRS),
+                "pairs" if task.is_some_and(|task| task.pairs_target.is_some()) => Some(&PAIRS),
                 _ => None,
             };
             if let (Some(task), Some(library), Ok(rounds)) = (task, library, rounds.parse()) {
