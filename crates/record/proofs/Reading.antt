@@ -2,11 +2,12 @@
 use mathlib.Core.Path.{_≡_, refl, sym, ap, _∙_}
 use mathlib.Core.Bool.{Bool, true, false, cond}
 use mathlib.Core.List.{List}
-use Prim.Native.Nat.{ℕ, _≤_}
+use Prim.Native.Nat.{ℕ, _*_, _-_, _≤_}
+use native.Mathlib.Nat.{mul-zero}
 use native.Mathlib.Omega.{arith}
-use borrow.Author.Tests.{le-leb, eq-eqb}
+use borrow.Author.Tests.{le-leb, eq-eqb, leb-true, leb-false}
 use lib.ListN.{length}
-use lib.Dec.{eqb}
+use lib.Dec.{leb, eqb}
 use Rattle.grid.specs.Refusals.{LENGTH, PADDING}
 use Rattle.grid.specs.Check.{refusal, unless, thenCheck, samplesCheck}
 use Rattle.grid.specs.declared.Refusal.{Refusal}
@@ -54,6 +55,20 @@ unpack-fine bytes room e =
 
 pub count-most : (bytes : List ℕ) → HeaderFine bytes → countOf bytes ≤ 531
 count-most bytes h = accepted (startOf bytes) (stepOf bytes) (countOf bytes) (h .grid) .many
+
+-- a row from at most 380 to 780 or more has two samples
+pub count-least : (bytes : List ℕ) → HeaderFine bytes → 2 ≤ countOf bytes
+count-least bytes h = go (leb 2 (countOf bytes)) refl
+  where
+    go : (b : Bool) → leb 2 (countOf bytes) ≡ b → 2 ≤ countOf bytes
+    go true e = leb-true 2 (countOf bytes) e
+    go false e =
+        let n = countOf bytes in
+        let grid = accepted (startOf bytes) (stepOf bytes) n (h .grid) in
+        let few = leb-false 2 n e in
+        let first : n - 1 ≡ 0 = omega arith in
+        let none : stepOf bytes * (n - 1) ≡ 0 = ap (λ (k : ℕ). stepOf bytes * k) first ∙ mul-zero (stepOf bytes) in
+        absurd (omega arith)
 
 -- behind two tests, the samples are left
 samples-left :

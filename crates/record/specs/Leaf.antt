@@ -2,7 +2,7 @@
 use mathlib.Core.Path.{_≡_}
 use mathlib.Core.List.{List, _++_}
 use Prim.Native.Nat.{ℕ, _+_, _*_, _/_, _%_, _<_}
-use lib.ListN.{length, take, drop, getD}
+use lib.ListN.{length, take, drop, getD, set}
 use lib.Dec.{eqb}
 use Rattle.grid.specs.Refusals.{LENGTH, PADDING}
 use Rattle.grid.specs.Check.{require, unless, thenCheck, samplesCheck}
@@ -35,22 +35,17 @@ secondOf number fifth = number % 4096 * 256 + fifth
 abbrev pub numberOf : ℕ → ℕ → ℕ
 numberOf first second = first * 4096 + second / 256
 
--- of each two places of a row, up to m times two, the first has this and the second that
-abbrev pub PairsTo : ℕ → List ℕ → (ℕ → ℕ) → (ℕ → ℕ) → Type 0
-PairsTo m row this that = (j : ℕ) → j < m → (getD row (2 * j) 0 ≡ this j) × (getD row (2 * j + 1) 0 ≡ that j)
+-- a row after the two places of pair j are set
+abbrev pub withPair : List ℕ → ℕ → ℕ → ℕ → List ℕ
+withPair row j x y = set (set row (2 * j) x) (2 * j + 1) y
 
--- each two places hold a number and a fifth byte of a record
-abbrev pub Gathered : List ℕ → List ℕ → Type 0
-Gathered bytes row = PairsTo (length row / 2) row (λ j. fourAt bytes (3 + 5 * j)) (λ j. getD bytes (3 + 5 * j + 4) 0)
+-- the first m pairs of a row are those of xs
+abbrev pub PairsTo : ℕ → List ℕ → List ℕ → Type 0
+PairsTo m xs row = (j : ℕ) → j < m → (getD row (2 * j) 0 ≡ getD xs (2 * j) 0) × (getD row (2 * j + 1) 0 ≡ getD xs (2 * j + 1) 0)
 
--- each second place holds a byte
-abbrev pub Small : List ℕ → Type 0
-Small row = (j : ℕ) → j < length row / 2 → getD row (2 * j + 1) 0 < 256
-
--- each two places hold the two samples
-abbrev pub Split : List ℕ → List ℕ → Type 0
-Split row out =
-    PairsTo (length row / 2) out (λ j. firstOf (getD row (2 * j) 0)) (λ j. secondOf (getD row (2 * j) 0) (getD row (2 * j + 1) 0))
+-- every pair is
+abbrev pub PairsOf : List ℕ → List ℕ → Type 0
+PairsOf xs row = PairsTo (length row / 2) xs row
 
 -- each place has the number of two samples
 abbrev pub Joined : List ℕ → List ℕ → Type 0

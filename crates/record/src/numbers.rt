@@ -19,7 +19,7 @@ pub fn four(bytes: &[u8], at: usize) -> u32
     three(bytes, at) * 256 + wide(bytes[at + 3])
 }
 
-fn wide(x: u8) -> u32
+pub fn wide(x: u8) -> u32
     ensures { λ r. ⌜ (r ≡ x) × (r < 256) ⌝ }
 {
     x as u32

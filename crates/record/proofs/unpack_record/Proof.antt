@@ -12,7 +12,7 @@ use Rattle.record.specs.declared.Header.{Header}
 use Rattle.record.specs.declared.RecordRead.the-variants as read
 use Rattle.record.specs.Leaf.{shapeCheck, unpackCheck}
 use Rattle.record.proofs.Refusals.{ShapeFine, header-fine, shape-fine}
-use Rattle.record.proofs.Reading.{header-refused, shape-left, answer-refused, answer-read}
+use Rattle.record.proofs.Reading.{count-least, header-refused, shape-left, answer-refused, answer-read}
 use borrow.Author.Needs.{needs}
 use Rattle.record.proofs.unpack_record.Statement.{statement}
 use Rattle.record.proofs.unpack_record.Tie as tie
@@ -91,7 +91,7 @@ unpack-requires : tie.Need-unpack-requires
 unpack-requires c κs =
     let told = c .before in
     let a = answer (shape told) in
-    (rw (part told) (some-and-few a .1), rw (part told) (fine told .whole))
+    (rw (part told) (rw (count a) (count-least (bytes a) (header-fine (bytes a) (heading a .0)))), rw (part told) (some-and-few a .1), rw (part told) (fine told .whole))
 
 returns-2 : tie.Need-returns-2
 returns-2 c =
