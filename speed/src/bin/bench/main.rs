@@ -14,7 +14,7 @@ use std::time::Instant;
 use work::{Library, Task, Work, FIGURES, ITEMS, OURS, PAIRS, READING, REPORT, STRAIGHT, TASKS};
 
 /// Each time is the best of so many rounds.
-const ROUNDS: usize = 25;
+const ROUNDS: usize = 100;
 
 const NS_A_SECOND: f64 = 1e9;
 
