@@ -43,7 +43,7 @@ withPair row j x y = set (set row (2 * j) x) (2 * j + 1) y
 abbrev pub PairsTo : ℕ → List ℕ → List ℕ → Type 0
 PairsTo m xs row = (j : ℕ) → j < m → (getD row (2 * j) 0 ≡ getD xs (2 * j) 0) × (getD row (2 * j + 1) 0 ≡ getD xs (2 * j + 1) 0)
 
--- every pair is
+-- all pairs of a row are those of xs
 abbrev pub PairsOf : List ℕ → List ℕ → Type 0
 PairsOf xs row = PairsTo (length row / 2) xs row
 
