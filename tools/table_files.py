@@ -12,8 +12,9 @@ from typing import NamedTuple
 STRETCHES = ("first", "second", "third")
 # The largest unit: weights are at 10^13 to one.
 LARGEST_POWER = 13
-# Fields that take no more room than this stand on one line where rt fmt lays out the code.
+# Fields that take no more room than this stand on one line where rt fmt lays out the code, and so wide are its lines.
 SHORT = 18
+WIDTH = 99
 
 
 class Misfit(Exception):
@@ -31,7 +32,7 @@ class Table(NamedTuple):
 
     def words(self):
         """What the templates say of it."""
-        names = {"constant": self.name.upper(), "dashed": self.name.replace("_", "-"), "count": len(self.entries)}
+        names = {"constant": self.name.upper(), "count": len(self.entries)}
         return self._asdict() | names
 
 
@@ -40,9 +41,9 @@ def filled(template, **words):
 
 
 def for_each(template, tables):
-    """The template once for each table, with its place among them: `k` is nothing for the first, and then 2, 3 .."""
-    places = [("", "")] + [(str(number), f"-{number}") for number in range(2, len(tables) + 1)]
-    return "".join(filled(template, **table.words(), k=k, dash_k=dash_k) for table, (k, dash_k) in zip(tables, places))
+    """The template once for each table, with the arm that it is in: the first one's calls are named without it."""
+    arms = [""] + [f"-in-{table.variant}" for table in tables[1:]]
+    return "".join(filled(template, **table.words(), arm=arm) for table, arm in zip(tables, arms))
 
 
 # The units of a curve's table
@@ -93,18 +94,18 @@ def counts_of(table):
 NUMBERS = """\
 // The tables as the code reads them, from 360 to 830 nm: written by tools/tables. A table is built anew where it is asked for;
 // each has a function of its own, since one match over the numbers would look up every entry by the curve.
+ghost use Rattle.std.specs.Prelude.{◌≡◌};
+ghost use Rattle.tables.specs.Tables.{powers};
+ghost use Rattle.tables.specs.Held.{in_units};
+ghost use Rattle.tables.specs.declared.Curve.{Curve};
+ghost use Rattle.tables.specs.declared.Illuminant.{Illuminant};
+
 use crate::Illuminant;
-use crate::units::Stretch;
-use crate::units::Units;
-ghost use mathlib.Core.Path.{_≡_};
-ghost use Rattle·tables·specs.specs.Tables.{powers};
-ghost use Rattle·tables·specs.specs.Held.{inUnits};
-ghost use Rattle·tables·specs.specs.declared.Curve.{Curve};
-ghost use Rattle·tables·specs.specs.declared.Illuminant.{Illuminant};
+use crate::units::{Stretch, Units};
 $curves
 // The whole table of an illuminant.
 pub fn powers_of(illuminant: Illuminant) -> [u32; $count]
-    ensures { λ r. ⌜ r ≡ powers illuminant ⌝ }
+    ensures { result ≡ powers illuminant }
 {
     match illuminant {
 $arms    }
@@ -120,7 +121,7 @@ pub const ${constant}_UNITS: Units = Units {
 $units};
 
 pub fn $name() -> [u64; $count]
-    ensures { λ r. ⌜ r ≡ inUnits Curve.$variant ⌝ }
+    ensures { result ≡ in_units Curve.$variant }
 {
     $constant
 }
@@ -132,7 +133,7 @@ const $constant: [u32; $count] = [
 $numbers];
 
 fn $name() -> [u32; $count]
-    ensures { λ r. ⌜ r ≡ powers Illuminant.$variant ⌝ }
+    ensures { result ≡ powers Illuminant.$variant }
 {
     $constant
 }
@@ -140,21 +141,24 @@ fn $name() -> [u32; $count]
 
 BY_CURVE = """\
 // A row summed by a curve's table, with an arm for each curve: written by tools/tables.
+ghost use Rattle.std.specs.Prelude.{◌≡◌};
+ghost use Rattle.exact.specs.Value.{short};
+ghost use Rattle.grid.specs.Check.{Within};
+ghost use Rattle.mixing.specs.Sum.{weighted};
+ghost use Rattle.tables.specs.Curves.{weight_of};
+ghost use Rattle.curves.specs.Work.{line_of};
+
 use crate::summed::sum;
 use exact::digits::Short;
 use tables::Curve;
-${uses}ghost use mathlib.Core.Path.{_≡_};
-ghost use Rattle·exact.specs.Value.{short};
-ghost use Rattle·grid.specs.Check.{Within};
-ghost use Rattle·mixing.specs.Sum.{weighted};
-ghost use Rattle·tables.specs.Curves.{weightOf};
-ghost use Rattle·curves·specs.specs.Work.{lineOf};
+use tables::numbers::{
+$uses};
 
 // Of the row `low` or, where it comes in two, of high · 2^21 + low: the table is built once for both, and lent where it
 // is built, since a function that chose one would copy it.
 pub fn by_curve(curve: Curve, in_two: bool, high: &[u64; 471], low: &[u64; 471]) -> Short
-    requires { ⌜ Within 10000000 (now high) × Within 10000000 (now low) ⌝ }
-    ensures { λ r. ⌜ short r ≡ weighted 471 (weightOf curve) (lineOf in_two (now (high .entry)) (now (low .entry))) ⌝ }
+    requires { Within 10000000 high.now × Within 10000000 low.now }
+    ensures { short result ≡ weighted 471 (weight_of curve) (line_of in_two high.now low.now) }
 {
     match curve {
 $arms    }
@@ -162,8 +166,15 @@ $arms    }
 """
 
 
-def lines_of(numbers):
-    return "".join(f"    {number},\n" for number in numbers)
+def lines_of(words):
+    """The words with commas, as many on a line as it takes."""
+    lines = []
+    for word in words:
+        if lines and len(lines[-1]) + len(f" {word},") <= WIDTH:
+            lines[-1] += f" {word},"
+        else:
+            lines.append(f"    {word},")
+    return "".join(f"{line}\n" for line in lines)
 
 
 def units_text(table):
@@ -194,10 +205,9 @@ def numbers_text(curves, illuminants):
 
 
 def by_curve_text(curves):
-    uses = for_each("use tables::numbers::${constant}_UNITS;\nuse tables::numbers::$name;\n", curves)
     return filled(
         BY_CURVE,
-        uses="".join(sorted(uses.splitlines(keepends=True))),
+        uses=lines_of(sorted(for_each("${constant}_UNITS $name ", curves).split())),
         arms=for_each("        Curve::$variant => sum(&$name(), ${constant}_UNITS, in_two, high, low),\n", curves),
     )
 
@@ -207,137 +217,86 @@ def by_curve_text(curves):
 CURVE_PROOF = """\
 -- The numbers of the code are the table's, counted in its units: written by tools/tables.
 use mathlib.Core.Path.{refl}
-use Rattle·tables·specs.specs.Tables.{table}
-use Rattle·tables·specs.specs.Units.{unitAt}
-use Rattle·tables·specs.specs.Held.{countedFrom, inUnits}
-use Rattle·tables·proofs.proofs.numbers.$name.Statement.{statement}
-use Rattle·tables·proofs.proofs.numbers.$name.Tie as tie
+use Rattle.tables.specs.Tables.{table}
+use Rattle.tables.specs.Units.{unit_at}
+use Rattle.tables.specs.Held.{counted_from, in_units}
+use Rattle.tables.proofs.numbers.$name.Goals as goal
 
-returns : tie.Need-returns
-unfolding inUnits countedFrom unitAt table
+pub returns : goal.returns
+unfolding in_units counted_from unit_at table
 returns c = refl
-
-pub $dashed-spec : {M : Type 1} → statement M
-$dashed-spec = tie.close (tie.spec returns)
 """
 
 ILLUMINANT_PROOF = """\
 -- The numbers of the code are the table's: written by tools/tables.
 use mathlib.Core.Path.{refl}
-use Rattle·tables·specs.specs.Tables.{powers}
-use Rattle·tables·proofs.proofs.numbers.$name.Statement.{statement}
-use Rattle·tables·proofs.proofs.numbers.$name.Tie as tie
+use Rattle.tables.specs.Tables.{powers}
+use Rattle.tables.proofs.numbers.$name.Goals as goal
 
-returns : tie.Need-returns
+pub returns : goal.returns
 unfolding powers
 returns c = refl
-
-pub $dashed-spec : {M : Type 1} → statement M
-$dashed-spec = tie.close (tie.spec returns)
-"""
-
-POWERS_OF_PROOF = """\
--- In each arm the table is the definition's: written by tools/tables.
-use borrow.Author.Needs.{needs}
-use Rattle·tables·proofs.proofs.numbers.powers_of.Statement.{statement}
-use Rattle·tables·proofs.proofs.numbers.powers_of.Tie as tie
-
-${returns}pub powers-of-spec : {M : Type 1} → statement M
-powers-of-spec =
-    tie.close
-    (tie.spec
-    $given)
-"""
-
-POWERS_OF_RETURNS = """\
-returns$dash_k : tie.Need-returns$dash_k
-returns$dash_k c = rw (c .before .enum-told$k .given .1) (c .$dashed .ensures)
-
 """
 
 BY_CURVE_PROOF = """\
 -- In each arm the table and the units are the curve's: written by tools/tables.
-use mathlib.Core.Path.{_∙_}
-use borrow.Author.Needs.{needs}
-use Rattle·tables.specs.declared.Curve.the-variants.{$variants}
-use Rattle·tables.proofs.Held.{held}
-use Rattle·curves·proofs.proofs.ByCurve.{summed-by}
-use Rattle·curves·proofs.proofs.by_curve.by_curve.Statement.{statement}
-use Rattle·curves·proofs.proofs.by_curve.by_curve.Tie as tie
+use mathlib.Core.Path.{◌∙◌}
+use Rattle.tables.specs.declared.Curve.TheVariants.{$variants}
+use Rattle.tables.proofs.Held.{held}
+use Rattle.curves.proofs.ByCurve.{summed_by}
+use Rattle.curves.proofs.by_curve.by_curve.Goals as goal
+${requires}${returns}"""
 
-${requires}${returns}pub by-curve-spec : {M : Type 1} → statement M
-by-curve-spec =
-    tie.close
-    (tie.spec
-    $given)
+BY_CURVE_REQUIRES = """
+pub sum-requires$arm : goal.sum-requires$arm
+sum-requires$arm c =
+    (rw c.$name.ensures (held $variant), c.requires.0, c.requires.1)
 """
 
-BY_CURVE_REQUIRES = """\
-sum-requires$dash_k : tie.Need-sum-requires$dash_k
-sum-requires$dash_k c κs =
-    let s = c .before .before .before .before in
-    (rw (c .before .$dashed .ensures) (held $variant), s .pre .0, s .pre .1)
-
-"""
-
-BY_CURVE_RETURNS = """\
-returns$dash_k : tie.Need-returns$dash_k
-returns$dash_k c =
-    let lent = c .before .before in
-    rw (lent .before .enum-told$k .given .1) (rw (lent .$dashed .ensures) at (c .sum$k .ensures) ∙ summed-by $variant _)
-
+BY_CURVE_RETURNS = """
+pub returns-in-$variant : goal.returns-in-$variant
+returns-in-$variant c =
+    rw c.in-$variant.is (rw c.$name.ensures at c.sum$arm.ensures ∙ summed_by $variant _)
 """
 
 EACH = """\
 -- What is computed alike over the list of all curves is equal at each of them: written by tools/tables.
-use mathlib.Core.Path.{_≡_, ap}
+use mathlib.Core.Path.{◌≡◌, ap}
 use mathlib.Core.Bool.{true}
 use mathlib.Core.List.{List, map}
-use Prim.Native.Nat.{ℕ, _≤_}
+use Prim.Native.Nat.{ℕ, ◌≤◌}
 use borrow.Author.Tests.{leb-true}
 use lib.Dec.{leb}
-use lib.ListN.{getD}
-use Rattle·tables·specs.specs.Columns.{curves}
-use Rattle·tables·specs.specs.declared.Curve.{Curve}
-use Rattle·tables·specs.specs.declared.Curve.the-variants.{$variants}
+use lib.ListN.{get_or}
+use Rattle.tables.specs.Columns.{curves}
+use Rattle.tables.specs.declared.Curve.{Curve}
+use Rattle.tables.specs.declared.Curve.TheVariants.{$variants}
 
 pub each : {A : Type 0} (f g : Curve → A) → map f curves ≡ map g curves → (c : Curve) → f c ≡ g c
 each {A} f g e = go
   where
-    at : (k : ℕ) → getD (map f curves) k (f $first) ≡ getD (map g curves) k (f $first)
-    at k = ap (λ (xs : List A). getD xs k (f $first)) e
+    at : (k : ℕ) → get_or (map f curves) k (f $first) ≡ get_or (map g curves) k (f $first)
+    at k = ap (λ (xs : List A). get_or xs k (f $first)) e
 
     go : (c : Curve) → f c ≡ g c
 $cases
 -- so is a bound that no curve's number passes, or falls short of
-pub each-most : (f : Curve → ℕ) (most : ℕ) → map (λ c. leb (f c) most) curves ≡ map (λ c. true) curves → (c : Curve) → f c ≤ most
-each-most f most e c = leb-true (f c) most (each (λ c. leb (f c) most) (λ c. true) e c)
+pub each_most : (f : Curve → ℕ) (most : ℕ) → map (λ c. leb (f c) most) curves ≡ map (λ c. true) curves → (c : Curve) → f c ≤ most
+each_most f most e c = leb-true (f c) most (each (λ c. leb (f c) most) (λ c. true) e c)
 
-pub each-least : (f : Curve → ℕ) (least : ℕ) → map (λ c. leb least (f c)) curves ≡ map (λ c. true) curves → (c : Curve) → least ≤ f c
-each-least f least e c = leb-true least (f c) (each (λ c. leb least (f c)) (λ c. true) e c)
+pub each_least : (f : Curve → ℕ) (least : ℕ) → map (λ c. leb least (f c)) curves ≡ map (λ c. true) curves → (c : Curve) → least ≤ f c
+each_least f least e c = leb-true least (f c) (each (λ c. leb least (f c)) (λ c. true) e c)
 """
 
 DETERMINED = """\
 -- The functions that give the curves' tables are determined: written by tools/tables.
-use Rattle·quailribbon·proofs.proofs.Determined.{OneResult, same}
+use Rattle.quailribbon.proofs.Determined.{OneResult, same}
 $uses$lemmas"""
 
 DETERMINED_LEMMA = """
-one-$dashed : OneResult $dashed.Post
-one-$dashed k a r q e f p s = same p s
+one_$name : OneResult $name.Post
+one_$name k a r q e f p s = same p s
 """
-
-
-def given_text(needs, tables):
-    """What is given for the needs of each arm, and then for what each returns, a line each."""
-    lines = for_each(needs, tables) + for_each("returns$dash_k\n", tables)
-    return "\n    ".join(lines.splitlines())
-
-
-def powers_of_proof(illuminants):
-    needs = "(λ c. search needs)\n(λ c κs. search needs)\n"
-    returns = for_each(POWERS_OF_RETURNS, illuminants)
-    return filled(POWERS_OF_PROOF, returns=returns, given=given_text(needs, illuminants))
 
 
 def by_curve_proof(curves):
@@ -346,7 +305,6 @@ def by_curve_proof(curves):
         variants=variants_of(curves),
         requires=for_each(BY_CURVE_REQUIRES, curves),
         returns=for_each(BY_CURVE_RETURNS, curves),
-        given=given_text("(λ c. search needs)\n(λ c κs. search needs)\nsum-requires$dash_k\n", curves),
     )
 
 
@@ -356,7 +314,7 @@ def each_text(curves):
 
 
 def determined_text(curves):
-    uses = for_each("use Rattle·tables.proofs.numbers.$name.Reads as $dashed\n", curves)
+    uses = for_each("use Rattle.tables.proofs.numbers.$name.Reads as $name\n", curves)
     return filled(DETERMINED, uses=uses, lemmas=for_each(DETERMINED_LEMMA, curves))
 
 
@@ -365,13 +323,11 @@ def determined_text(curves):
 TABLES = """\
 -- The tables as the contracts read them, from 360 to 830 nm: written by tools/tables from the source documents and, where said,
 -- from elsewhere.
-use mathlib.Core.List.{List, [], _∷_, _++_}
-use Prim.Native.Nat.{ℕ}
-use lib.ListN.{replicate}
-use Rattle·tables·specs.specs.declared.Curve.{Curve}
-use Rattle·tables·specs.specs.declared.Curve.the-variants.{$curves}
-use Rattle·tables·specs.specs.declared.Illuminant.{Illuminant}
-use Rattle·tables·specs.specs.declared.Illuminant.the-variants.{$illuminants}
+use Rattle.std.specs.Prelude.{List, [], ◌∷◌, ◌++◌, ℕ, replicate}
+use Rattle.tables.specs.declared.Curve.{Curve}
+use Rattle.tables.specs.declared.Curve.TheVariants.{$curves}
+use Rattle.tables.specs.declared.Illuminant.{Illuminant}
+use Rattle.tables.specs.declared.Illuminant.TheVariants.{$illuminants}
 
 -- the whole table of a curve, from 360 nm on
 unfoldable pub table : Curve → List ℕ
@@ -382,33 +338,32 @@ $powers"""
 
 COLUMNS = """\
 -- What is computed over each table: written by tools/tables, and proved.
-use mathlib.Core.List.{List, [], _∷_}
-use Prim.Native.Nat.{ℕ}
-use Rattle·tables·specs.specs.Units.{stretch, stretches}
-use Rattle·tables·specs.specs.declared.Curve.{Curve}
-use Rattle·tables·specs.specs.declared.Curve.the-variants.{$curves}
-use Rattle·tables·specs.specs.declared.Illuminant.{Illuminant}
-use Rattle·tables·specs.specs.declared.Illuminant.the-variants.{$illuminants}
-use Rattle·tables·specs.specs.declared.units.Units.{Units}
+use Rattle.std.specs.Prelude.{List, [], ◌∷◌, ℕ}
+use Rattle.tables.specs.Units.{stretch, stretches}
+use Rattle.tables.specs.declared.Curve.{Curve}
+use Rattle.tables.specs.declared.Curve.TheVariants.{$curves}
+use Rattle.tables.specs.declared.Illuminant.{Illuminant}
+use Rattle.tables.specs.declared.Illuminant.TheVariants.{$illuminants}
+use Rattle.tables.specs.declared.units.Units.{Units}
 
 -- every curve
 abbrev pub curves : List Curve
 curves = $list
 
 -- what the entries of a curve add up to
-abbrev pub tableSum : Curve → ℕ
+abbrev pub table_sum : Curve → ℕ
 $table_sum
 -- and the largest of them
-abbrev pub tableTop : Curve → ℕ
+abbrev pub table_top : Curve → ℕ
 $table_top
 -- the same of an illuminant
-abbrev pub powersSum : Illuminant → ℕ
+abbrev pub powers_sum : Illuminant → ℕ
 $powers_sum
 -- and its largest
-abbrev pub powersTop : Illuminant → ℕ
+abbrev pub powers_top : Illuminant → ℕ
 $powers_top
 -- what illuminant times curve adds up to
-abbrev pub litSum : Illuminant → Curve → ℕ
+abbrev pub lit_sum : Illuminant → Curve → ℕ
 $lit_sum
 -- the units in which the code counts a curve's entries, stretch by stretch
 abbrev pub units : Curve → Units
@@ -467,7 +422,7 @@ def lit_sums(illuminant, curves):
     def lit_by(curve):
         return sum(power * weight for power, weight in zip(illuminant.entries, curve.entries))
 
-    return clauses(f"litSum {illuminant.variant}", curves, lit_by)
+    return clauses(f"lit_sum {illuminant.variant}", curves, lit_by)
 
 
 def columns_text(curves, illuminants):
@@ -476,10 +431,10 @@ def columns_text(curves, illuminants):
         curves=variants_of(curves),
         illuminants=variants_of(illuminants),
         list=" ∷ ".join([curve.variant for curve in curves] + ["[]"]),
-        table_sum=clauses("tableSum", curves, sum_of),
-        table_top=clauses("tableTop", curves, largest_of),
-        powers_sum=clauses("powersSum", illuminants, sum_of),
-        powers_top=clauses("powersTop", illuminants, largest_of),
+        table_sum=clauses("table_sum", curves, sum_of),
+        table_top=clauses("table_top", curves, largest_of),
+        powers_sum=clauses("powers_sum", illuminants, sum_of),
+        powers_top=clauses("powers_top", illuminants, largest_of),
         lit_sum="".join(lit_sums(illuminant, curves) for illuminant in illuminants),
         units=clauses("units", curves, units_of),
     )
@@ -493,11 +448,10 @@ def texts_of(curves, illuminants):
         "crates/tables/specs/Tables.antt": tables_text(curves, illuminants),
         "crates/tables/specs/Columns.antt": columns_text(curves, illuminants),
         "crates/tables/proofs/Each.antt": each_text(curves),
-        f"{proofs}/powers_of/Proof.antt": powers_of_proof(illuminants),
         "crates/curves/src/by_curve.rt": by_curve_text(curves),
-        "crates/curves/proofs/by_curve/by_curve/Proof.antt": by_curve_proof(curves),
+        "crates/curves/proofs/by_curve/by_curve/Answers.antt": by_curve_proof(curves),
         "crates/quailribbon/proofs/DeterminedTables.antt": determined_text(curves),
     }
     for template, tables in ((CURVE_PROOF, curves), (ILLUMINANT_PROOF, illuminants)):
-        texts |= {f"{proofs}/{table.name}/Proof.antt": filled(template, **table.words()) for table in tables}
+        texts |= {f"{proofs}/{table.name}/Answers.antt": filled(template, **table.words()) for table in tables}
     return texts

@@ -1,4 +1,4 @@
--- Coordinates over one divisor: dark where it is 0, else each numerator's nearest. x and y are such, and so are u' and v'.
+-- Coordinates over one divisor: dark where it is 0, else each numerator's nearest. x and y are such, and so are u′ and v′.
 use mathlib.Core.Path.{◌≡◌, refl, sym}
 use mathlib.Core.Bool.{Bool, true, false, cond, not-eq-not}
 use mathlib.Core.List.{List, [], ◌∷◌, map}
@@ -101,7 +101,7 @@ module _ (x y z : ℕ) where
       both (suc zero) = le_refl 100000
       both (suc (suc i)) = zero-le
 
-  -- u' is at most 4, and v' at most 9/15
+  -- u′ is at most 4, and v′ at most 9/15
   pub uv_most : (i : ℕ) → value (said_uv (uv_from x y z)) i ≤ get_or (400000 ∷ 60000 ∷ []) i 0
   uv_most = rw uv_is (over_most (4 * x ∷ 9 * y ∷ []) (uv_divisor x y z) (400000 ∷ 60000 ∷ []) (omega arith, (omega arith, tt)))
 
@@ -115,7 +115,7 @@ module _ (x y z : ℕ) where
       go true false p q = absurd (let none = eqb-true (uv_divisor x y z) 0 p in eqb-false (x + y + z) 0 q (omega arith))
       go false true p q = absurd (let none = eqb-true (x + y + z) 0 q in eqb-false (uv_divisor x y z) 0 p (omega arith))
 
-  -- so u' and v' are dark where x and y are
+  -- so u′ and v′ are dark where x and y are
   pub uv_refused : RefusedAs (said_xy (xy_from x y z)) (said_uv (uv_from x y z))
   unfolding xy_from uv_from
   uv_refused = rw together (go (eqb (x + y + z) 0))

@@ -17,7 +17,7 @@ unfoldable pub Summed : Check → ℕ → (Curve → ℕ) → SumsAnswer → Typ
 Summed check o by (SumsAnswer.Given sums) = (check ≡ Fine) × SumsBy o by sums
 Summed check o by (SumsAnswer.Refused refusal) = check ≡ Check.Refused refusal
 
--- what u' and v' are divided by is a number of 96 bits, where sums are given, and so X + Y + Z is
+-- what u′ and v′ are divided by is a number of 96 bits, where sums are given, and so X + Y + Z is
 abbrev pub ShortDivisors : SumsAnswer → Type 0
 ShortDivisors answer =
     (sums : Sums) → answer ≡ SumsAnswer.Given sums → uv_divisor (short sums.x) (short sums.y) (short sums.z) < 2 ^ 96

@@ -33,7 +33,7 @@ xy_from x y z = cond (eqb (x + y + z) 0) (XyAnswer.Refused (refusal DARK 0)) (Xy
 abbrev pub uv_divisor : ℕ → ℕ → ℕ → ℕ
 uv_divisor x y z = x + 15 * y + 3 * z
 
--- u' = 4 X / (X + 15 Y + 3 Z) and v' = 9 Y / (X + 15 Y + 3 Z), as document 004, 3.5, has them
+-- u′ = 4 X / (X + 15 Y + 3 Z) and v′ = 9 Y / (X + 15 Y + 3 Z), as document 004, 3.5, has them
 abbrev pub uv_over : ℕ → ℕ → ℕ → Uv
 uv_over x y z =
     record { u = in_hundred_thousandths (4 * x) (uv_divisor x y z); v = in_hundred_thousandths (9 * y) (uv_divisor x y z) }

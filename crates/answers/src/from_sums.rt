@@ -10,7 +10,7 @@ use crate::{ChartAnswer, UvAnswer, XyAnswer};
 use curves::weigh::Sums;
 use grid::Refusal;
 
-#[derive(Drop)]
+#[derive(Clone, Copy)]
 pub enum SumsAnswer {
     Given(Sums),
     Refused(Refusal),
@@ -27,7 +27,7 @@ pub fn xy_summed(answer: SumsAnswer) -> XyAnswer
     }
 }
 
-// u' and v' in hundred-thousandths.
+// u′ and v′ in hundred-thousandths.
 pub fn uv_summed(answer: SumsAnswer) -> UvAnswer
     requires { ShortDivisors answer }
     ensures { result ≡ from_sums UvAnswer.Refused uv_from answer }

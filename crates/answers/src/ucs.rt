@@ -1,4 +1,4 @@
-// u' and v' of three exact sums: the coordinates of the 1976 UCS diagram.
+// u′ and v′ of three exact sums: the coordinates of the 1976 UCS diagram.
 ghost use Rattle.std.specs.Prelude.{◌≡◌, ◌^◌, ◌<◌};
 ghost use Rattle.exact.specs.Value.{short};
 ghost use Rattle.answers.specs.Worked.{uv_divisor, uv_over, uv_from};
@@ -11,7 +11,7 @@ use exact::divide::is_zero;
 use grid::Refusal;
 use grid::refusals::DARK;
 
-// u' and v' from the exact sums, or DARK.
+// u′ and v′ from the exact sums, or DARK.
 pub fn uv_from(sums: Sums) -> UvAnswer
     requires { uv_divisor (short sums.x) (short sums.y) (short sums.z) < 2 ^ 96 }
     ensures { result ≡ uv_from (short sums.x) (short sums.y) (short sums.z) }

@@ -1,67 +1,83 @@
 // Prints, as a page of docs/, each place where the x, y columns of document 002 are not those of single-wavelength light.
-mod printed;
+#![tactic(auto)]
 
 ghost use Rattle.std.specs.Prelude.{◌<◌};
 
 use answers::XyAnswer;
-use libc::STDOUT_FILENO;
 use printed::{X, X_10, Y, Y_10};
+use std::io;
 
-fn main() {
-    io::write_all(
-        STDOUT_FILENO,
-        b"# The printed x, y columns of document 002\n\n",
-    );
-    io::write_all(
-        STDOUT_FILENO,
-        b"Light of a single wavelength, 1,000,000 at it and 0 elsewhere, has the coordinates that document 002 prints, or nearly:\n",
-    );
-    io::write_all(
-        STDOUT_FILENO,
-        b"the printed columns are adjusted in places. Each place where a printed number is not ours is listed. The program\n",
-    );
-    io::write_all(STDOUT_FILENO, b"`columns` makes this page.\n");
-    io::write_all(STDOUT_FILENO, b"\n## Gaps of more than one unit\n\n");
-    both_observers(2, 100000);
-    io::write_all(STDOUT_FILENO, b"\n## Gaps of one unit\n\n");
-    both_observers(1, 1);
+mod printed;
+
+fn main(rt: HostRuntime) -> io::Result<()> {
+    print!(rt; "# The printed x, y columns of document 002\n\n")?;
+    print!(rt;
+        "Light of a single wavelength, 1,000,000 at it and 0 elsewhere, has the coordinates that document 002 prints, or nearly:\n"
+    )?;
+    print!(rt;
+        "the printed columns are adjusted in places. Each place where a printed number is not ours is listed. The program\n"
+    )?;
+    print!(rt; "`columns` makes this page.\n")?;
+    print!(rt; "\n## Gaps of more than one unit\n\n")?;
+    both_observers(&rt, 2, 100000)?;
+    print!(rt; "\n## Gaps of one unit\n\n")?;
+    both_observers(&rt, 1, 1)
 }
 
 // The gaps in a range, of both observers.
-fn both_observers(low: u32, high: u32) {
-    io::write_all(
-        STDOUT_FILENO,
-        b"| observer | nm | coordinate | printed | ours |\n|---|---|---|---|---|\n",
-    );
-    rows(2, &X, &Y, low, high);
-    rows(10, &X_10, &Y_10, low, high);
+fn both_observers(rt: &impl Print, low: u32, high: u32) -> io::Result<()> {
+    print!(rt; "| observer | nm | coordinate | printed | ours |\n|---|---|---|---|---|\n")?;
+    rows(rt, 2, &X, &Y, low, high)?;
+    rows(rt, 10, &X_10, &Y_10, low, high)
 }
 
-fn rows(observer: u32, xs: &[u32; 471], ys: &[u32; 471], low: u32, high: u32) {
+fn rows(
+    rt: &impl Print,
+    observer: u32,
+    xs: &[u32; 471],
+    ys: &[u32; 471],
+    low: u32,
+    high: u32,
+) -> io::Result<()> {
     for k in 0..471 {
-        row(observer, k, xs[k], ys[k], low, high);
+        row(rt, observer, k, xs[k], ys[k], low, high)?;
     }
+    Ok(())
 }
 
-fn row(observer: u32, k: usize, x: u32, y: u32, low: u32, high: u32)
+fn row(
+    rt: &impl Print,
+    observer: u32,
+    k: usize,
+    x: u32,
+    y: u32,
+    low: u32,
+    high: u32,
+) -> io::Result<()>
     requires { k < 471 }
 {
     let mut samples = [0u32; 471];
     samples[k] = 1000000;
-    let answer = readings::colour::xy(observer, 360, 1, &samples);
-    match answer {
+    match readings::colour::xy(observer, 360, 1, &samples) {
         XyAnswer::Value(ours) => {
-            gap(observer, k, b"x", x, ours.x, low, high);
-            gap(observer, k, b"y", y, ours.y, low, high);
+            gap(rt, observer, k, "x", x, ours.x, low, high)?;
+            gap(rt, observer, k, "y", y, ours.y, low, high)
         }
-        XyAnswer::Refused(_) => {
-            io::write_all(STDOUT_FILENO, b"refused\n");
-        }
+        XyAnswer::Refused(_) => print!(rt; "refused\n"),
     }
 }
 
 // A line where the printed number and ours lie so far apart.
-fn gap(observer: u32, k: usize, name: &[u8], printed: u32, ours: u32, low: u32, high: u32)
+fn gap(
+    rt: &impl Print,
+    observer: u32,
+    k: usize,
+    name: &str,
+    printed: u32,
+    ours: u32,
+    low: u32,
+    high: u32,
+) -> io::Result<()>
     requires { k < 471 }
 {
     let apart = if printed < ours {
@@ -69,24 +85,17 @@ fn gap(observer: u32, k: usize, name: &[u8], printed: u32, ours: u32, low: u32, 
     } else {
         printed - ours
     };
-    if apart < low {
-        return;
+    if apart < low || high < apart {
+        return Ok(());
     }
-    if high < apart {
-        return;
-    }
-    cell(observer as u64);
-    cell(360 + k as u64);
-    io::write_all(STDOUT_FILENO, b"| ");
-    io::write_all(STDOUT_FILENO, name);
-    io::write_all(STDOUT_FILENO, b" ");
-    cell(printed as u64);
-    cell(ours as u64);
-    io::write_all(STDOUT_FILENO, b"|\n");
+    cell(rt, observer as u64)?;
+    cell(rt, 360 + k as u64)?;
+    print!(rt; "| {name} ")?;
+    cell(rt, printed as u64)?;
+    cell(rt, ours as u64)?;
+    print!(rt; "|\n")
 }
 
-fn cell(number: u64) {
-    io::write_all(STDOUT_FILENO, b"| ");
-    io::print_decimal(STDOUT_FILENO, number);
-    io::write_all(STDOUT_FILENO, b" ");
+fn cell(rt: &impl Print, number: u64) -> io::Result<()> {
+    print!(rt; "| {number} ")
 }

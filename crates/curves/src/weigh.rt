@@ -11,7 +11,7 @@ use exact::digits::Short;
 use tables::Curve;
 
 // An observer's three curves.
-#[derive(Drop)]
+#[derive(Clone, Copy)]
 pub struct ObserverCurves {
     pub x: Curve,
     pub y: Curve,
@@ -19,7 +19,7 @@ pub struct ObserverCurves {
 }
 
 // The three exact sums of a colour.
-#[derive(Drop)]
+#[derive(Clone, Copy)]
 pub struct Sums {
     pub x: Short,
     pub y: Short,

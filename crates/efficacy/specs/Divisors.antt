@@ -3,7 +3,7 @@ use Rattle.std.specs.Prelude.{ℕ}
 use Rattle.tables.specs.declared.Curve.{Curve}
 use Rattle.tables.specs.declared.Curve.TheVariants.{XBar, YBar, ZBar, XBar10, YBar10, ZBar10, VPrime, VF, VF10}
 
--- V, V10, V', V_F and V_F,10 at 555.017 nm, at 10^16 to one
+-- V, V10, V′, V_F and V_F,10 at 555.017 nm, at 10^16 to one
 abbrev v_reference : ℕ
 v_reference = 9999975639000000
 

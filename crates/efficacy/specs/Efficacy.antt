@@ -27,7 +27,7 @@ of_peak c peak = record { over = 683 * (1000 * value_at c peak); under = at_refe
 abbrev of_reference : Curve → Efficacy
 of_reference c = record { over = 683 * 10 ^ 16; under = at_reference c }
 
--- V has its peak at 555 nm, V10 at 557 and V' at 507; X, Y, Z of an observer take the efficacy of its V; the
+-- V has its peak at 555 nm, V10 at 557 and V′ at 507; X, Y, Z of an observer take the efficacy of its V; the
 -- cone-fundamental curves have no peak factor
 abbrev pub efficacy_of : Curve → Efficacy
 efficacy_of XBar = of_peak YBar 555
@@ -44,6 +44,6 @@ efficacy_of VF10 = of_reference VF10
 abbrev pub in_millilux : Curve → ℕ → ℕ → ℕ
 in_millilux c s w = nearest ((efficacy_of c).over * w) (s * 10 ^ 16 * (efficacy_of c).under)
 
--- the mesopic bracket: 1000 times the sum of k times V and (1000 - k) times V', both at 555.017 nm, at 10^16 to one
+-- the mesopic bracket: 1000 times the sum of k times V and (1000 - k) times V′, both at 555.017 nm, at 10^16 to one
 abbrev pub mesopic_bracket : ℕ → ℕ
 mesopic_bracket k = 1000 * (k * at_reference YBar + (1000 - k) * at_reference VPrime)

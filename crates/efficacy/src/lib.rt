@@ -1,5 +1,7 @@
-// The efficacy of each curve as it is worked: 683 for all, over the value of V, V10 or V' at 555.017 nm, since their peaks are 1,
+// The efficacy of each curve as it is worked: 683 for all, over the value of V, V10 or V′ at 555.017 nm, since their peaks are 1,
 // and over that of a cone-fundamental curve, which has no peak factor.
+#![tactic(auto)]
+
 ghost use Rattle.std.specs.Prelude.{◌≡◌, ◌*◌, ◌≤◌};
 ghost use Rattle.exact.specs.Value.{short};
 ghost use Rattle.efficacy.specs.Divisors.{divisor_of};

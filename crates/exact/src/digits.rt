@@ -3,7 +3,7 @@ ghost use Rattle.std.specs.Prelude.{◌≡◌, ◌+◌, ◌*◌, ◌/◌, ◌^�
 ghost use Rattle.exact.specs.Value.{short, long};
 
 // A number below 2^96, in three digits of 32 bits.
-#[derive(Drop)]
+#[derive(Clone, Copy)]
 pub struct Short {
     pub high: u32,
     pub middle: u32,
@@ -11,7 +11,7 @@ pub struct Short {
 }
 
 // A number below 2^128, in two digits of 64 bits.
-#[derive(Drop)]
+#[derive(Clone, Copy)]
 pub struct Long {
     pub high: u64,
     pub low: u64,

@@ -1,5 +1,5 @@
 -- The bench figures P1 to P10 with the rules' own numbers, the illuminances and X, Y, Z worked again with the reference at
--- 555.017 nm, u' and v' beside x and y, research figures, strings of lamps, and some of the project's own. Refusals have their
+-- 555.017 nm, u′ and v′ beside x and y, research figures, strings of lamps, and some of the project's own. Refusals have their
 -- numbers here too, so that the table holds the names to them.
 use Rattle.std.specs.Prelude.{List, [], ◌∷◌, ◌++◌, ℕ, ◌-◌, replicate}
 use Rattle.mixing.specs.Mixture.{mix, mixture}
@@ -108,7 +108,7 @@ rows =
     ∷ gives (research 32 380 10 (mix (lone 41 4 1363) (lone 41 5 15531))) (3756 ∷ [])
     ∷ gives (research 40 380 10 (mix (lone 41 3 209644) (lone 41 31 554720))) (46786 ∷ [])
     ∷ gives (research 40 380 10 (mix (lone 41 3 209644) (lone 41 31 554719))) (46785 ∷ [])
-    -- our own: light as at 555.017, of which a watt has 683 lumens by V, V10, V' and the cone-fundamental curves
+    -- our own: light as at 555.017, of which a watt has 683 lumens by V, V10, V′ and the cone-fundamental curves
     ∷ gives (photopic 380 1 at_the_reference) (683000 ∷ [])
     ∷ gives (scotopic 380 1 at_the_reference) (683000 ∷ [])
     ∷ gives (photopic10 380 1 at_the_reference) (683000 ∷ [])
@@ -121,11 +121,11 @@ rows =
     ∷ gives (xyz 2 380 1 (at460 1)) (0 ∷ 0 ∷ 1 ∷ [])
     ∷ gives (xy 2 380 1 (at460 1)) (14396 ∷ 2970 ∷ [])
     ∷ gives (uv 2 380 1 (at460 1)) (18766 ∷ 8712 ∷ [])
-    -- our own: u' of exactly 51562.5 and v' of exactly 39062.5; 1,000,000 at 600, where u' of the rounded x and y would be 40104
+    -- our own: u′ of exactly 51562.5 and v′ of exactly 39062.5; 1,000,000 at 600, where u′ of the rounded x and y would be 40104
     ∷ gives (uv 10 380 10 (mix (lone 41 25 594523) (lone 41 24 283786))) (51563 ∷ 52266 ∷ [])
     ∷ gives (uv 10 380 10 (mix (lone 41 26 577365) (lone 41 9 228674))) (34779 ∷ 39063 ∷ [])
     ∷ gives (uv 2 380 10 (lone 41 22 1000000)) (40103 ∷ 53971 ∷ [])
-    -- our own: the greatest u' and v' for observer 2, the first by the last sample alone; and the first sample alone
+    -- our own: the greatest u′ and v′ for observer 2, the first by the last sample alone; and the first sample alone
     ∷ gives (uv 2 380 10 (lone 41 40 1000000)) (62337 ∷ 50650 ∷ [])
     ∷ gives (uv 2 380 1 (lone 401 151 1000000)) (5290 ∷ 58676 ∷ [])
     ∷ gives (uv 2 380 10 (lone 41 0 1000000)) (25708 ∷ 1677 ∷ [])
@@ -184,7 +184,7 @@ rows =
     ∷ gives (panel_xyz 10 1 360 1 (replicate 471 10000)) (111144 ∷ 100000 ∷ 35200 ∷ [])
     ∷ gives (panel_xyz 10 2 360 1 (replicate 471 10000)) (94811 ∷ 100000 ∷ 107305 ∷ [])
     ∷ gives (panel_xy 2 2 360 1 (replicate 471 10000)) (31273 ∷ 32902 ∷ [])
-    -- our own: its u' and v', for both observers, under A and under D65
+    -- our own: its u′ and v′, for both observers, under A and under D65
     ∷ gives (panel_uv 2 1 360 1 (replicate 471 10000)) (25597 ∷ 52429 ∷ [])
     ∷ gives (panel_uv 2 2 360 1 (replicate 471 10000)) (19784 ∷ 46834 ∷ [])
     ∷ gives (panel_uv 10 1 360 1 (replicate 471 10000)) (25896 ∷ 52425 ∷ [])
@@ -221,7 +221,7 @@ rows =
     ∷ gives (xy 2 380 10 (mixture 41 (replicate 41 0 ∷ lone 41 8 15625 ∷ lone 41 16 15625 ∷ lone 41 24 15625 ∷ []))) (31806 ∷ 31014 ∷ [])
     ∷ gives (xy 2 380 10 (mixture 41 (replicate 41 0 ∷ lone 41 8 15625 ∷ replicate 41 0 ∷ []))) (14381 ∷ 3041 ∷ [])
     ∷ refuses (xy 2 380 10 (strung 64 (replicate 41 0))) 9 0
-    -- our own: the refusals of u' and v', each before the next, of a light and of a panel
+    -- our own: the refusals of u′ and v′, each before the next, of a light and of a panel
     ∷ refuses (uv 3 381 3 (lone 399 7 1000001)) 6 0
     ∷ refuses (uv 2 381 3 (lone 399 7 1000001)) 1 0
     ∷ refuses (uv 2 381 1 (lone 399 7 1000001)) 2 0

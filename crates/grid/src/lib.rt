@@ -1,4 +1,6 @@
 // Refusals, and the checks that every spectrum, panel and record shares: step, start, count, observer, and the limit of a sample.
+#![tactic(auto)]
+
 pub mod refusals;
 
 ghost use Rattle.std.specs.Prelude.{◌≡◌, true, ◌≤◌, length};
@@ -7,14 +9,14 @@ ghost use Rattle.grid.specs.Check.{grid_check, is_step, is_start, is_count, is_o
 use crate::refusals::{COUNT, SAMPLE, START, STEP};
 
 // A refusal's number, and the place of the first faulty sample for SAMPLE and REFLECTANCE (else 0).
-#[derive(Drop)]
+#[derive(Clone, Copy)]
 pub struct Refusal {
     pub number: u32,
     pub place: u32,
 }
 
 // What a check finds.
-#[derive(Drop)]
+#[derive(Clone, Copy)]
 pub enum Check {
     Fine,
     Refused(Refusal),

@@ -144,7 +144,7 @@ mesopic_any k few =
     let less = (nearest_lt (683 * full k) (divisor k) (omega arith) 165033524).1 (omega arith) in
     rw (mesopic_0, greatest_is k) (omega arith)
 
--- u' and v' and the chart's point are dark where x and y are
+-- u′ and v′ and the chart's point are dark where x and y are
 pub coordinates : (x y z : ℕ) → Coordinates (said_xy (xy_from x y z)) (said_uv (uv_from x y z)) (said_on_chart (chart_from x y z))
 coordinates x y z =
     let given = xy_unless_dark x y z in

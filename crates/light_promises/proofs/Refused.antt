@@ -1,4 +1,4 @@
--- u' and v' and the chart's point are refused as x and y are: by the same check, and where it is fine by divisors that are 0
+-- u′ and v′ and the chart's point are refused as x and y are: by the same check, and where it is fine by divisors that are 0
 -- together.
 use mathlib.Core.Path.{refl}
 use mathlib.Core.List.{List}

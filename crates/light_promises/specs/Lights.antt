@@ -1,4 +1,4 @@
--- What is promised of mixed light, of light in order, of darkness, of the refusals of u', v' and the chart, and of the mesopic
+-- What is promised of mixed light, of light in order, of darkness, of the refusals of u′, v′ and the chart, and of the mesopic
 -- reading by day and by night, said of these readings.
 use Rattle.std.specs.Prelude.{◌≡◌, true, List, [], ◌∷◌, ◌++◌, ℕ, ◌+◌, ◌*◌, ◌≤◌, min, max, length, replicate}
 use Rattle.grid.specs.Refusals.{DARK}
@@ -71,7 +71,7 @@ pub record Amounts (Holds : Answer → Type 0) : Type 0 where
   pub mesopic : (k : ℕ) → k ≤ 1000 → Holds (λ a s xs. said_reading (mesopic_of k a s xs))
   pub xyz : (o : ℕ) → is_observer o ≡ true → Holds (λ a s xs. said_xyz (xyz_of o a s xs))
 
--- x, y and u', v'
+-- x, y and u′, v′
 pub record Colours (Holds : Answer → Type 0) : Type 0 where
   pub xy : (o : ℕ) → is_observer o ≡ true → Holds (λ a s xs. said_xy (xy_of o a s xs))
   pub uv : (o : ℕ) → is_observer o ≡ true → Holds (λ a s xs. said_uv (uv_of o a s xs))
@@ -138,7 +138,7 @@ pub record Darkness : Type 0 where
       (a s : ℕ) (xs : List ℕ) → light_check a s xs ≡ Fine → Colourless 2 a s xs → Unlit VPrime a s xs →
       said_figures (figures_of a s xs) ≡ given (0 ∷ 0 ∷ 0 ∷ 0 ∷ 0 ∷ DARK ∷ 0 ∷ 0 ∷ []) []
 
--- u' and v' and the chart's point are refused exactly as x and y are
+-- u′ and v′ and the chart's point are refused exactly as x and y are
 pub record RefusedAlike (xy uv chart : Said) : Type 0 where
   pub uv_refused : RefusedAs xy uv
   pub chart_refused : RefusedAs xy chart

@@ -1,5 +1,5 @@
--- What is promised of panels: X, Y, Z are given, and x, y and u', v' unless dark; none of X, Y, Z is above a white panel's, whose Y
--- is exactly 100000; a grey panel's Y is 10 times its reflectance; u', v' and the chart are refused as x and y are; and the order
+-- What is promised of panels: X, Y, Z are given, and x, y and u′, v′ unless dark; none of X, Y, Z is above a white panel's, whose Y
+-- is exactly 100000; a grey panel's Y is 10 times its reflectance; u′, v′ and the chart are refused as x and y are; and the order
 -- of reflectances is kept.
 use Rattle.std.specs.Prelude.{◌≡◌, cond, List, [], ◌∷◌, ℕ, ◌*◌, ◌≤◌, length, get_or, replicate, eqb}
 use Rattle.grid.specs.declared.Check.TheVariants.{Fine}
@@ -34,12 +34,12 @@ pub record Panels : Type 0 where
   pub grey :
       (o i a s n r : ℕ) → setting_check o i a s n ≡ Fine → r ≤ 10000 →
       ((said_panel_xyz o i a s (replicate n r)).number ≡ 0) × (value (said_panel_xyz o i a s (replicate n r)) 1 ≡ 10 * r)
-  -- an accepted panel's x, y, its u', v' and its chart's point are given unless they are dark, and its figures in one call always
+  -- an accepted panel's x, y, its u′, v′ and its chart's point are given unless they are dark, and its figures in one call always
   pub coordinates :
       (o i a s : ℕ) (rs : List ℕ) → panel_check o i a s rs ≡ Fine →
       Coordinates (said_xy (panel_xy_of o i a s rs)) (said_uv (panel_uv_of o i a s rs)) (said_chart (panel_chart_of o i a s rs))
   pub figures : (o i a s : ℕ) (rs : List ℕ) → panel_check o i a s rs ≡ Fine → (said_panel_figures (panel_figures_of o i a s rs)).number ≡ 0
-  -- whatever is asked, u' and v' and the chart's point are refused exactly as x and y are
+  -- whatever is asked, u′ and v′ and the chart's point are refused exactly as x and y are
   pub refused_alike :
       (o i a s : ℕ) (rs : List ℕ) →
       RefusedAlike (said_xy (panel_xy_of o i a s rs)) (said_uv (panel_uv_of o i a s rs)) (said_chart (panel_chart_of o i a s rs))

@@ -25,7 +25,7 @@ mesopic_greatest k = mesopic_millilux k 360 1 (replicate 471 1000000)
 abbrev pub GivenUnlessDark : Said → Type 0
 GivenUnlessDark said = (IsDark said → ⊥) → said.number ≡ 0
 
--- unless they are dark, x and y are given, each at most 100000, u' and v', at most 400000 and 60000, and the chart's point
+-- unless they are dark, x and y are given, each at most 100000, u′ and v′, at most 400000 and 60000, and the chart's point
 pub record Coordinates (xy uv chart : Said) : Type 0 where
   pub xy_given : GivenUnlessDark xy
   pub xy_at_most : (i : ℕ) → value xy i ≤ 100000

@@ -1,5 +1,5 @@
 // What is promised of a light's readings: their range, how mixed light and strings of lamps behave, the order of light, darkness,
-// the refusals of u', v' and the chart and of the research figures, and the mesopic reading by day and by night.
+// the refusals of u′, v′ and the chart and of the research figures, and the mesopic reading by day and by night.
 ghost use Rattle.light_promises.specs.Range.{Range};
 ghost use Rattle.light_promises.specs.Research.{Research};
 ghost use Rattle.light_promises.specs.Strings.{Strings};

@@ -1,35 +1,37 @@
 // Prints every answer to 2,000 made inputs, a line an input. Its stdout is what second/many.py prints, from the second
 // implementation; how an input is made is said there.
-mod made;
-mod records;
+#![tactic(auto)]
 
 ghost use Rattle.std.specs.Prelude.{◌<◌, ◌≤◌};
 
-use libc::STDOUT_FILENO;
 use made::draw;
+use std::io;
 
-fn main() {
+mod made;
+mod records;
+
+fn main(rt: HostRuntime) -> io::Result<()> {
     for i in 0..2000 {
-        line(i);
+        line(&rt, i)?;
     }
+    Ok(())
 }
 
-fn line(i: u64)
+fn line(rt: &impl Print, i: u64) -> io::Result<()>
     requires { i < 2000 }
 {
-    io::print_decimal(STDOUT_FILENO, i);
-    io::write_all(STDOUT_FILENO, b":");
+    print!(rt; "{i}:")?;
     let a = draw(draw(draw(draw(i + 1))));
     let b = draw(a);
     let c = draw(b);
     let step = made::step_from(a);
     let start = made::start_from(b);
-    answers_on_grid(start, step, made::count_from(c, start, step), draw(c));
-    io::write_all(STDOUT_FILENO, b"\n");
+    answers_on_grid(rt, start, step, made::count_from(c, start, step), draw(c))?;
+    print!(rt; "\n")
 }
 
 // From the draw that gives the mode.
-fn answers_on_grid(start: u32, step: u32, count: usize, d: u64)
+fn answers_on_grid(rt: &impl Print, start: u32, step: u32, count: usize, d: u64) -> io::Result<()>
     requires { (count ≤ 532) × (d < 2147483647) }
 {
     let mode = d % 8;
@@ -44,6 +46,7 @@ fn answers_on_grid(start: u32, step: u32, count: usize, d: u64)
     let mut reflectances = [0u16; 532];
     made::reflect(mode, &samples, &mut reflectances);
     answers(
+        rt,
         k,
         observer,
         illuminant,
@@ -52,10 +55,11 @@ fn answers_on_grid(start: u32, step: u32, count: usize, d: u64)
         &samples[..count],
         &reflectances[..count],
         g,
-    );
+    )
 }
 
 fn answers(
+    rt: &impl Print,
     k: u32,
     observer: u32,
     illuminant: u32,
@@ -64,41 +68,70 @@ fn answers(
     samples: &[u32],
     reflectances: &[u16],
     d: u64,
-)
+) -> io::Result<()>
     requires { d < 2147483647 }
 {
-    light(k, observer, start, step, samples);
-    colour(observer, start, step, samples);
-    panel(observer, illuminant, start, step, reflectances);
-    records::record(start, step, samples, d);
+    light(rt, k, observer, start, step, samples)?;
+    colour(rt, observer, start, step, samples)?;
+    panel(rt, observer, illuminant, start, step, reflectances)?;
+    records::record(rt, start, step, samples, d)
 }
 
-fn light(k: u32, observer: u32, start: u32, step: u32, samples: &[u32]) {
-    shown::reading(readings::photopic(start, step, samples));
-    shown::reading(readings::scotopic(start, step, samples));
-    shown::reading(readings::photopic_10(start, step, samples));
-    shown::reading(readings::mesopic(k, start, step, samples));
-    shown::reading(readings::research(observer, start, step, samples));
+fn light(
+    rt: &impl Print,
+    k: u32,
+    observer: u32,
+    start: u32,
+    step: u32,
+    samples: &[u32],
+) -> io::Result<()> {
+    shown::reading(rt, readings::photopic(start, step, samples))?;
+    shown::reading(rt, readings::scotopic(start, step, samples))?;
+    shown::reading(rt, readings::photopic_10(start, step, samples))?;
+    shown::reading(rt, readings::mesopic(k, start, step, samples))?;
+    shown::reading(rt, readings::research(observer, start, step, samples))
 }
 
-fn colour(observer: u32, start: u32, step: u32, samples: &[u32]) {
-    shown::xyz(readings::colour::xyz(observer, start, step, samples));
-    shown::xy(readings::colour::xy(observer, start, step, samples));
-    shown::uv(readings::colour::uv(observer, start, step, samples));
-    shown::chart(readings::colour::chart(observer, start, step, samples));
-    shown::figures(readings::figures::figures(start, step, samples));
+fn colour(
+    rt: &impl Print,
+    observer: u32,
+    start: u32,
+    step: u32,
+    samples: &[u32],
+) -> io::Result<()> {
+    shown::xyz(rt, readings::colour::xyz(observer, start, step, samples))?;
+    shown::xy(rt, readings::colour::xy(observer, start, step, samples))?;
+    shown::uv(rt, readings::colour::uv(observer, start, step, samples))?;
+    shown::chart(rt, readings::colour::chart(observer, start, step, samples))?;
+    shown::figures(rt, readings::figures::figures(start, step, samples))
 }
 
-fn panel(observer: u32, illuminant: u32, start: u32, step: u32, reflectances: &[u16]) {
-    shown::xyz(panel::panel_xyz(observer, illuminant, start, step, reflectances));
-    shown::xy(panel::panel_xy(observer, illuminant, start, step, reflectances));
-    shown::uv(panel::panel_uv(observer, illuminant, start, step, reflectances));
-    shown::chart(panel::panel_chart(observer, illuminant, start, step, reflectances));
-    shown::panel_figures(panel::figures::panel_figures(
-        observer,
-        illuminant,
-        start,
-        step,
-        reflectances,
-    ));
+fn panel(
+    rt: &impl Print,
+    observer: u32,
+    illuminant: u32,
+    start: u32,
+    step: u32,
+    reflectances: &[u16],
+) -> io::Result<()> {
+    shown::xyz(
+        rt,
+        panel::panel_xyz(observer, illuminant, start, step, reflectances),
+    )?;
+    shown::xy(
+        rt,
+        panel::panel_xy(observer, illuminant, start, step, reflectances),
+    )?;
+    shown::uv(
+        rt,
+        panel::panel_uv(observer, illuminant, start, step, reflectances),
+    )?;
+    shown::chart(
+        rt,
+        panel::panel_chart(observer, illuminant, start, step, reflectances),
+    )?;
+    shown::panel_figures(
+        rt,
+        panel::figures::panel_figures(observer, illuminant, start, step, reflectances),
+    )
 }

@@ -1,61 +1,63 @@
 // What is printed of an input's record: written where there is little room, written whole, read back, and read again damaged.
-ghost use Rattle.std.specs.Prelude.{◌≡◌, ◌≤◌, ◌<◌, length};
+ghost use Rattle.std.specs.Prelude.{◌≡◌, ◌≤◌, ◌<◌, length as list_length};
 
 use crate::made::{draw, place_in};
-use libc::STDOUT_FILENO;
 use record::{RecordRead, RecordWritten};
 use shown::{also, number, refused, space};
+use std::io;
 
 // d is the draw before.
-pub fn record(start: u32, step: u32, samples: &[u32], d: u64)
+pub fn record(rt: &impl Print, start: u32, step: u32, samples: &[u32], d: u64) -> io::Result<()>
     requires { d < 2147483647 }
 {
     let e = draw(d);
-    cramped(start, step, samples, e as usize % 1332);
-    space();
+    cramped(rt, start, step, samples, e as usize % 1332)?;
+    space(rt)?;
     let mut bytes = [0u8; 1331];
     let answer = record::write_record(start, step, samples, &mut bytes);
     match answer {
-        RecordWritten::Written(length) => written(length as usize, &mut bytes, draw(e)),
-        RecordWritten::Refused(refusal) => refused(refusal),
+        RecordWritten::Written(length) => written(rt, length as usize, &mut bytes, draw(e)),
+        RecordWritten::Refused(refusal) => refused(rt, refusal),
     }
 }
 
 // The answer alone.
-fn cramped(start: u32, step: u32, samples: &[u32], room: usize)
+fn cramped(rt: &impl Print, start: u32, step: u32, samples: &[u32], room: usize) -> io::Result<()>
     requires { room < 1332 }
 {
-    space();
+    space(rt)?;
     let mut bytes = [0u8; 1331];
     let answer = record::write_record(start, step, samples, &mut bytes[..room]);
     match answer {
-        RecordWritten::Written(length) => {
-            io::print_decimal(STDOUT_FILENO, length as u64);
-        }
-        RecordWritten::Refused(refusal) => refused(refusal),
+        RecordWritten::Written(length) => number(rt, length),
+        RecordWritten::Refused(refusal) => refused(rt, refusal),
     }
 }
 
 // The length of the record and the sum of its bytes, what reading it gives, and what reading it damaged gives.
-fn written(length: usize, bytes: &mut [u8], d: u64)
-    requires* do_value { do ⌜ (← ⟦bytes.len()⟧) ≡ 1331 ⌝ }
+fn written(rt: &impl Print, length: usize, bytes: &mut [u8], d: u64) -> io::Result<()>
+    requires do_value { list_length bytes.old ≡ 1331 }
     requires d_bound { d < 2147483647 }
 {
     if 1331 < length {
-        return;
+        return Ok(());
     }
     if length == 0 {
-        return;
+        return Ok(());
     }
-    io::print_decimal(STDOUT_FILENO, length as u64);
-    io::write_all(STDOUT_FILENO, b",");
-    io::print_decimal(STDOUT_FILENO, sum_of_bytes(bytes, length));
-    read(bytes, length, 531);
+    let sum = sum_of_bytes(bytes, length);
+    print!(rt; "{length},{sum}")?;
+    read(rt, bytes, length, 531)?;
     let e = draw(d);
     let place = place_from(d as usize, length);
     damage(bytes, place, e);
     let f = draw(e);
-    read(bytes, length - e as usize / 255 % 2, room_from(f as usize));
+    read(
+        rt,
+        bytes,
+        length - e as usize / 255 % 2,
+        room_from(f as usize),
+    )
 }
 
 // A byte of the header, the last byte, or any.
@@ -75,7 +77,7 @@ fn place_from(d: usize, length: usize) -> usize
 
 // Another byte at a place.
 fn damage(bytes: &mut [u8], place: usize, d: u64)
-    requires* { do ⌜ place < (← ⟦bytes.len()⟧) ⌝ }
+    requires { place < list_length bytes.old }
 {
     bytes[place] = other_byte(bytes[place], d);
 }
@@ -91,38 +93,43 @@ fn room_from(d: usize) -> usize
 }
 
 // What reading the first bytes gives in a row with so much room.
-fn read(bytes: &[u8], length: usize, room: usize)
-    requires* length_bound { do ⌜ length ≤ (← ⟦bytes.len()⟧) ⌝ }
+fn read(rt: &impl Print, bytes: &[u8], length: usize, room: usize) -> io::Result<()>
+    requires length_bound { length ≤ list_length bytes.now }
     requires room_bound { room ≤ 531 }
 {
-    space();
+    space(rt)?;
     let mut row = [0u32; 531];
     let answer = record::read_record(&bytes[..length], &mut row[..room]);
     match answer {
         RecordRead::Read(header) => spectrum(
+            rt,
             header.start,
             header.step,
             header.count as usize,
             &row,
         ),
-        RecordRead::Refused(refusal) => refused(refusal),
+        RecordRead::Refused(refusal) => refused(rt, refusal),
     }
 }
 
-fn spectrum(start: u32, step: u32, count: usize, row: &[u32; 531]) {
+fn spectrum(
+    rt: &impl Print,
+    start: u32,
+    step: u32,
+    count: usize,
+    row: &[u32; 531],
+) -> io::Result<()> {
     if 531 < count {
-        return;
+        return Ok(());
     }
-    number(start);
-    also(step);
-    io::write_all(STDOUT_FILENO, b",");
-    io::print_decimal(STDOUT_FILENO, count as u64);
-    io::write_all(STDOUT_FILENO, b",");
-    io::print_decimal(STDOUT_FILENO, sum_of_samples(row, count));
+    let sum = sum_of_samples(row, count);
+    number(rt, start)?;
+    also(rt, step)?;
+    print!(rt; ",{count},{sum}")
 }
 
 fn sum_of_bytes(bytes: &[u8], count: usize) -> u64
-    requires count_in_bounds { count ≤ length bytes.now }
+    requires count_in_bounds { count ≤ list_length bytes.now }
     requires count_bound { count ≤ 1331 }
 {
     let mut sum = 0;

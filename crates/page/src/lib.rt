@@ -1,4 +1,6 @@
 // The report page: what a record says of its light, as text.
+#![tactic(auto)]
+
 mod lines;
 mod put;
 
@@ -12,7 +14,7 @@ use readings::figures::FiguresAnswer;
 use record::RecordRead;
 
 // What writing a report gives: the number of bytes written.
-#[derive(Drop)]
+#[derive(Clone, Copy)]
 pub enum ReportWritten {
     Written(u32),
     Refused(Refusal),

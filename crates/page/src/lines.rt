@@ -10,7 +10,7 @@ use grid::refusals::SAMPLE;
 use readings::figures::{FiguresAnswer, ReportFigures};
 
 // What a line shows behind its word.
-#[derive(Drop)]
+#[derive(Clone, Copy)]
 pub enum Shown {
     Number(u32),
     Coordinate(u32),

@@ -62,7 +62,7 @@ panel_xy o i a s rs = xy_from (panel_x_sum o i a s rs) (panel_y_sum o i a s rs) 
 unfoldable pub panel_xy_of : ℕ → ℕ → ℕ → ℕ → List ℕ → XyAnswer
 panel_xy_of o i a s rs = unless (panel_check o i a s rs) XyAnswer.Refused (panel_xy o i a s rs)
 
--- u' and v' come from the same
+-- u′ and v′ come from the same
 unfoldable pub panel_uv_of : ℕ → ℕ → ℕ → ℕ → List ℕ → UvAnswer
 panel_uv_of o i a s rs =
     unless (panel_check o i a s rs) UvAnswer.Refused (uv_from (panel_x_sum o i a s rs) (panel_y_sum o i a s rs) (panel_z_sum o i a s rs))

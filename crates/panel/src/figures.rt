@@ -10,13 +10,13 @@ use answers::{XyAnswer, Xyz};
 use grid::Refusal;
 
 // x and y may be refused as dark.
-#[derive(Drop)]
+#[derive(Clone, Copy)]
 pub struct PanelFigures {
     pub xyz: Xyz,
     pub xy: XyAnswer,
 }
 
-#[derive(Drop)]
+#[derive(Clone, Copy)]
 pub enum PanelFiguresAnswer {
     Value(PanelFigures),
     Refused(Refusal),

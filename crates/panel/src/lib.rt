@@ -1,4 +1,6 @@
-// Panel colour: X, Y, Z, the coordinates x, y and u', v', and the chart's point of a panel under an illuminant.
+// Panel colour: X, Y, Z, the coordinates x, y and u′, v′, and the chart's point of a panel under an illuminant.
+#![tactic(auto)]
+
 pub mod figures;
 mod part;
 mod reflectances;
@@ -46,7 +48,7 @@ pub fn panel_xy(
     xy_summed(panel_sums(observer, illuminant, start, step, reflectances))
 }
 
-// u' and v' in hundred-thousandths.
+// u′ and v′ in hundred-thousandths.
 pub fn panel_uv(
     observer: u32,
     illuminant: u32,

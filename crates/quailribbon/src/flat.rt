@@ -2,7 +2,7 @@
 // them (x and y of the figures); else it is the refusal's, and what is not given is 0.
 
 #[repr(C)]
-#[derive(Drop)]
+#[derive(Clone, Copy)]
 pub struct QrReading {
     pub number: u32,
     pub place: u32,
@@ -10,7 +10,7 @@ pub struct QrReading {
 }
 
 #[repr(C)]
-#[derive(Drop)]
+#[derive(Clone, Copy)]
 pub struct QrXyz {
     pub number: u32,
     pub place: u32,
@@ -20,7 +20,7 @@ pub struct QrXyz {
 }
 
 #[repr(C)]
-#[derive(Drop)]
+#[derive(Clone, Copy)]
 pub struct QrXy {
     pub number: u32,
     pub place: u32,
@@ -29,7 +29,7 @@ pub struct QrXy {
 }
 
 #[repr(C)]
-#[derive(Drop)]
+#[derive(Clone, Copy)]
 pub struct QrUv {
     pub number: u32,
     pub place: u32,
@@ -38,7 +38,7 @@ pub struct QrUv {
 }
 
 #[repr(C)]
-#[derive(Drop)]
+#[derive(Clone, Copy)]
 pub struct QrChart {
     pub number: u32,
     pub place: u32,
@@ -49,7 +49,7 @@ pub struct QrChart {
 }
 
 #[repr(C)]
-#[derive(Drop)]
+#[derive(Clone, Copy)]
 pub struct QrFigures {
     pub number: u32,
     pub place: u32,
@@ -64,7 +64,7 @@ pub struct QrFigures {
 }
 
 #[repr(C)]
-#[derive(Drop)]
+#[derive(Clone, Copy)]
 pub struct QrPanelFigures {
     pub number: u32,
     pub place: u32,
@@ -77,7 +77,7 @@ pub struct QrPanelFigures {
 }
 
 #[repr(C)]
-#[derive(Drop)]
+#[derive(Clone, Copy)]
 pub struct QrRecord {
     pub number: u32,
     pub place: u32,
@@ -87,7 +87,7 @@ pub struct QrRecord {
 }
 
 #[repr(C)]
-#[derive(Drop)]
+#[derive(Clone, Copy)]
 pub struct QrWritten {
     pub number: u32,
     pub place: u32,

@@ -40,7 +40,7 @@ module _ {a s : ℕ} {xs : List ℕ} (light : AcceptedLight a s xs) where
   pub step_small : s ≤ 10
   step_small = (on_grid a s xs light.fine).step_high
 
-  -- what u' and v' are divided by is a number of 96 bits
+  -- what u′ and v′ are divided by is a number of 96 bits
   divisor_small : {o : ℕ} {sums : Sums} → LightSums o a s xs sums → uv_divisor (short sums.x) (short sums.y) (short sums.z) < 2 ^ 96
   divisor_small {o} is =
       let high = step_small in

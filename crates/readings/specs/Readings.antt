@@ -36,7 +36,7 @@ illuminance_of c a s xs = unless (light_check a s xs) Reading.Refused (Reading.V
 abbrev pub photopic_of : ℕ → ℕ → List ℕ → Reading
 photopic_of a s xs = illuminance_of YBar a s xs
 
--- scotopic: by V'
+-- scotopic: by V′
 abbrev pub scotopic_of : ℕ → ℕ → List ℕ → Reading
 scotopic_of a s xs = illuminance_of VPrime a s xs
 
@@ -53,11 +53,11 @@ research_of o a s xs =
 abbrev pub mesopic_check : ℕ → ℕ → ℕ → List ℕ → Check
 mesopic_check k a s xs = require (leb k 1000) MESOPIC (light_check a s xs)
 
--- k · W(V) + (1000 - k) · W(V')
+-- k · W(V) + (1000 - k) · W(V′)
 abbrev pub mesopic_weighed : ℕ → ℕ → ℕ → List ℕ → ℕ
 mesopic_weighed k a s xs = k * weighed YBar a s xs + (1000 - k) * weighed VPrime a s xs
 
--- in millilux: the nearest of 683000 (k · W(V) + (1000 - k) · W(V')) / (s · 10^16 · bracket), with the bracket's own 10^16 above
+-- in millilux: the nearest of 683000 (k · W(V) + (1000 - k) · W(V′)) / (s · 10^16 · bracket), with the bracket's own 10^16 above
 abbrev pub mesopic_millilux : ℕ → ℕ → ℕ → List ℕ → ℕ
 mesopic_millilux k a s xs = nearest (683000 * 10 ^ 16 * mesopic_weighed k a s xs) (s * 10 ^ 16 * mesopic_bracket k)
 
@@ -94,7 +94,7 @@ light_xy o a s xs = xy_from (x_sum o a s xs) (y_sum o a s xs) (z_sum o a s xs)
 unfoldable pub xy_of : ℕ → ℕ → ℕ → List ℕ → XyAnswer
 xy_of o a s xs = unless (colour_check o a s xs) XyAnswer.Refused (light_xy o a s xs)
 
--- u' and v', from the same
+-- u′ and v′, from the same
 unfoldable pub uv_of : ℕ → ℕ → ℕ → List ℕ → UvAnswer
 uv_of o a s xs = unless (colour_check o a s xs) UvAnswer.Refused (uv_from (x_sum o a s xs) (y_sum o a s xs) (z_sum o a s xs))
 

@@ -27,7 +27,7 @@ LightSums o a s xs sums = SumsBy o (λ c. weighed c a s xs) sums
 abbrev pub LightSummed : ℕ → ℕ → ℕ → List ℕ → SumsAnswer → Type 0
 LightSummed o a s xs answer = Summed (colour_check o a s xs) o (λ c. weighed c a s xs) answer
 
--- those of observer 2, and W(V')
+-- those of observer 2, and W(V′)
 pub record FigureSumsOf (a s : ℕ) (xs : List ℕ) (sums : FigureSums) : Type 0 where
   pub colour : LightSums 2 a s xs sums.colour
   pub night : short sums.night ≡ weighed VPrime a s xs
@@ -39,7 +39,7 @@ pub record FiguresFit (s : ℕ) (sums : FigureSums) : Type 0 where
   pub scotopic : Fits (683 * short sums.night) (s * divisor_of VPrime)
   pub total : short sums.colour.x + short sums.colour.y + short sums.colour.z < 2 ^ 96
 
--- the figures of the report at step s from the sums x, y, z of observer 2 and that of V': photopic is Y
+-- the figures of the report at step s from the sums x, y, z of observer 2 and that of V′: photopic is Y
 abbrev pub figures_from : ℕ → ℕ → ℕ → ℕ → ℕ → ReportFigures
 figures_from s x y z night =
     record {

@@ -1,4 +1,4 @@
-// X, Y, Z, the coordinates x, y and u', v', and the chart's point of a light, all from the same three exact sums.
+// X, Y, Z, the coordinates x, y and u′, v′, and the chart's point of a light, all from the same three exact sums.
 ghost use Rattle.std.specs.Prelude.{◌≡◌};
 ghost use Rattle.readings.specs.Readings.{colour_check, xyz_of, xy_of, uv_of, chart_of};
 ghost use Rattle.readings.specs.Sums.{LightSummed};
@@ -36,7 +36,7 @@ pub fn xy(observer: u32, start: u32, step: u32, samples: &[u32]) -> XyAnswer
     xy_summed(light_sums(observer, start, step, samples))
 }
 
-// u' and v' in hundred-thousandths.
+// u′ and v′ in hundred-thousandths.
 pub fn uv(observer: u32, start: u32, step: u32, samples: &[u32]) -> UvAnswer
     ensures { result ≡ uv_of observer start step samples.now }
 {

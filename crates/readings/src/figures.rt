@@ -14,7 +14,7 @@ use spectrum::line::begin_at_360;
 use tables::Curve;
 
 // x and y may be refused as dark.
-#[derive(Drop)]
+#[derive(Clone, Copy)]
 pub struct ReportFigures {
     pub photopic: u32,
     pub scotopic: u32,
@@ -22,7 +22,7 @@ pub struct ReportFigures {
     pub xy: XyAnswer,
 }
 
-#[derive(Drop)]
+#[derive(Clone, Copy)]
 pub enum FiguresAnswer {
     Value(ReportFigures),
     Refused(Refusal),

@@ -1,4 +1,6 @@
 // Every reading of a light. The illuminances are here.
+#![tactic(auto)]
+
 pub mod colour;
 pub mod figures;
 mod sums;

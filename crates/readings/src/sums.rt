@@ -21,7 +21,7 @@ pub fn weighed(curve: Curve, first: u32, step: u32, part: &[u32]) -> Short
     weigh(curve, &row)
 }
 
-// k · W(V) + (1000 - k) · W(V').
+// k · W(V) + (1000 - k) · W(V′).
 pub fn mesopic_weighed(k: u32, first: u32, step: u32, part: &[u32]) -> Short
     requires { (k ≤ 1000) × Begun 1000000 first step part.now }
     ensures { short result ≡ mesopic_weighed k first step part.now }
@@ -50,8 +50,8 @@ pub fn colour_sums(observer: u32, first: u32, step: u32, part: &[u32]) -> Sums
     row_sums(observer, &row)
 }
 
-// The four sums of the report: those of observer 2, and V'.
-#[derive(Drop)]
+// The four sums of the report: those of observer 2, and V′.
+#[derive(Clone, Copy)]
 pub struct FigureSums {
     pub colour: Sums,
     pub night: Short,

@@ -1,4 +1,6 @@
 // The packed record: a spectrum's start, step and samples in as few bits as they need.
+#![tactic(auto)]
+
 mod body;
 mod head;
 mod numbers;
@@ -14,7 +16,7 @@ use grid::refusals::ROOM;
 use grid::{Check, Refusal};
 
 // What a record's header says of its spectrum.
-#[derive(Drop)]
+#[derive(Clone, Copy)]
 pub struct Header {
     pub start: u32,
     pub step: u32,
@@ -22,14 +24,14 @@ pub struct Header {
 }
 
 // What reading or unpacking a record gives.
-#[derive(Drop)]
+#[derive(Clone, Copy)]
 pub enum RecordRead {
     Read(Header),
     Refused(Refusal),
 }
 
 // What writing a record gives: the number of bytes written.
-#[derive(Drop)]
+#[derive(Clone, Copy)]
 pub enum RecordWritten {
     Written(u32),
     Refused(Refusal),

@@ -1,6 +1,8 @@
 // Reads one record from standard input and writes its report to standard output.
-use libc::{STDIN_FILENO, STDOUT_FILENO};
+#![tactic(auto)]
 
-fn main() {
-    printer::print_report(STDIN_FILENO, STDOUT_FILENO);
+use std::io;
+
+fn main(rt: HostRuntime) -> io::Result<()> {
+    printer::print_report(&mut rt.reader(), &mut io::writer(&rt))
 }

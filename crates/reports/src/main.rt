@@ -1,31 +1,30 @@
 // Writes the report of each record of data/, below its name.
-use libc::STDOUT_FILENO;
+#![tactic(auto)]
 
-fn main() {
-    print_named(b"dark");
-    print_named(b"largest");
-    print_named(b"longest");
-    print_named(b"start");
-    print_named(b"count");
-    print_named(b"sample");
-    print_named(b"edition");
-    print_named(b"reserved");
-    print_named(b"padding");
-    print_named(b"empty");
-    print_named(b"short");
-    print_named(b"cut");
-    print_named(b"overlong");
-    print_named(b"unending");
+use std::rt::Files;
+use std::{fs, io};
+
+fn main(rt: HostRuntime) -> io::Result<()> {
+    print_named(&rt, "dark")?;
+    print_named(&rt, "largest")?;
+    print_named(&rt, "longest")?;
+    print_named(&rt, "start")?;
+    print_named(&rt, "count")?;
+    print_named(&rt, "sample")?;
+    print_named(&rt, "edition")?;
+    print_named(&rt, "reserved")?;
+    print_named(&rt, "padding")?;
+    print_named(&rt, "empty")?;
+    print_named(&rt, "short")?;
+    print_named(&rt, "cut")?;
+    print_named(&rt, "overlong")?;
+    print_named(&rt, "unending")
 }
 
-fn print_named(name: &[u8]) {
-    io::write_all(STDOUT_FILENO, name);
-    io::write_all(STDOUT_FILENO, b"\n");
-    let from = os::open_read(name);
-    if from < 0 {
-        os::fail(name);
-        return;
+fn print_named<R: Files + Print + Eprint>(rt: &R, name: &str) -> io::Result<()> {
+    println!(rt; "{name}")?;
+    match fs::open(rt, name) {
+        Ok(mut from) => printer::print_report(&mut from, &mut io::writer(rt)),
+        Err(error) => eprintln!(rt; "{name}: {error}"),
     }
-    printer::print_report(from, STDOUT_FILENO);
-    libc::close(from);
 }

@@ -1,145 +1,140 @@
 // Each kind of answer as it is printed: its values with commas between, or !number@place.
+#![tactic(auto)]
+
 use answers::{ChartAnswer, OnChart, Reading, UvAnswer, XyAnswer, XyzAnswer};
 use grid::Refusal;
-use libc::STDOUT_FILENO;
 use panel::figures::PanelFiguresAnswer;
 use readings::figures::FiguresAnswer;
+use std::io;
 
-pub fn space() {
-    io::write_all(STDOUT_FILENO, b" ");
+pub fn space(rt: &impl Print) -> io::Result<()> {
+    print!(rt; " ")
 }
 
-pub fn number(n: u32) {
-    io::print_decimal(STDOUT_FILENO, n as u64);
+pub fn number(rt: &impl Print, n: u32) -> io::Result<()> {
+    print!(rt; "{n}")
 }
 
-pub fn also(n: u32) {
-    io::write_all(STDOUT_FILENO, b",");
-    number(n);
+pub fn also(rt: &impl Print, n: u32) -> io::Result<()> {
+    print!(rt; ",{n}")
 }
 
-pub fn refused(refusal: Refusal) {
-    io::write_all(STDOUT_FILENO, b"!");
-    number(refusal.number);
-    io::write_all(STDOUT_FILENO, b"@");
-    io::print_decimal(STDOUT_FILENO, refusal.place as u64);
+pub fn refused(rt: &impl Print, refusal: Refusal) -> io::Result<()> {
+    let number = refusal.number;
+    let place = refusal.place;
+    print!(rt; "!{number}@{place}")
 }
 
-pub fn reading(answer: Reading) {
-    space();
+pub fn reading(rt: &impl Print, answer: Reading) -> io::Result<()> {
+    space(rt)?;
     match answer {
-        Reading::Value(v) => number(v),
-        Reading::Refused(refusal) => refused(refusal),
+        Reading::Value(v) => number(rt, v),
+        Reading::Refused(refusal) => refused(rt, refusal),
     }
 }
 
-pub fn xyz(answer: XyzAnswer) {
-    space();
+pub fn xyz(rt: &impl Print, answer: XyzAnswer) -> io::Result<()> {
+    space(rt)?;
     match answer {
         XyzAnswer::Value(v) => {
-            number(v.x);
-            also(v.y);
-            also(v.z);
+            number(rt, v.x)?;
+            also(rt, v.y)?;
+            also(rt, v.z)
         }
-        XyzAnswer::Refused(refusal) => refused(refusal),
+        XyzAnswer::Refused(refusal) => refused(rt, refusal),
     }
 }
 
-pub fn xy(answer: XyAnswer) {
-    space();
+pub fn xy(rt: &impl Print, answer: XyAnswer) -> io::Result<()> {
+    space(rt)?;
     match answer {
         XyAnswer::Value(v) => {
-            number(v.x);
-            also(v.y);
+            number(rt, v.x)?;
+            also(rt, v.y)
         }
-        XyAnswer::Refused(refusal) => refused(refusal),
+        XyAnswer::Refused(refusal) => refused(rt, refusal),
     }
 }
 
-pub fn uv(answer: UvAnswer) {
-    space();
+pub fn uv(rt: &impl Print, answer: UvAnswer) -> io::Result<()> {
+    space(rt)?;
     match answer {
         UvAnswer::Value(v) => {
-            number(v.u);
-            also(v.v);
+            number(rt, v.u)?;
+            also(rt, v.v)
         }
-        UvAnswer::Refused(refusal) => refused(refusal),
+        UvAnswer::Refused(refusal) => refused(rt, refusal),
     }
 }
 
-pub fn chart(answer: ChartAnswer) {
-    space();
+pub fn chart(rt: &impl Print, answer: ChartAnswer) -> io::Result<()> {
+    space(rt)?;
     match answer {
-        ChartAnswer::Given(place) => on_chart(place),
-        ChartAnswer::Refused(refusal) => refused(refusal),
+        ChartAnswer::Given(place) => on_chart(rt, place),
+        ChartAnswer::Refused(refusal) => refused(rt, refusal),
     }
 }
 
-fn on_chart(place: OnChart) {
+fn on_chart(rt: &impl Print, place: OnChart) -> io::Result<()> {
     match place {
         OnChart::Point(point) => {
-            bits(point.x);
-            also_bits(point.y);
-            also_bits(point.u);
-            also_bits(point.v);
+            bits(rt, point.x)?;
+            also_bits(rt, point.y)?;
+            also_bits(rt, point.u)?;
+            also_bits(rt, point.v)
         }
-        OnChart::Dark => {
-            io::write_all(STDOUT_FILENO, b"dark");
-        }
+        OnChart::Dark => print!(rt; "dark"),
     }
 }
 
-fn also_bits(x: f64) {
-    io::write_all(STDOUT_FILENO, b",");
-    bits(x);
+fn also_bits(rt: &impl Print, x: f64) -> io::Result<()> {
+    print!(rt; ",")?;
+    bits(rt, x)
 }
 
 // The 64 bits of a coordinate, as a number. No coordinate is above 4, and what is no number is not below it either.
-fn bits(x: f64) {
+fn bits(rt: &impl Print, x: f64) -> io::Result<()> {
     if x <= 4.0 {
         let pattern: u64 = f64::to_bits(x);
-        io::print_decimal(STDOUT_FILENO, pattern);
+        print!(rt; "{pattern}")?;
     }
+    Ok(())
 }
 
-pub fn figures(answer: FiguresAnswer) {
-    space();
+pub fn figures(rt: &impl Print, answer: FiguresAnswer) -> io::Result<()> {
+    space(rt)?;
     match answer {
         FiguresAnswer::Value(v) => {
-            number(v.photopic);
-            also(v.scotopic);
-            also(v.xyz.x);
-            also(v.xyz.y);
-            also(v.xyz.z);
-            let colour = v.xy;
-            also_xy(colour);
+            number(rt, v.photopic)?;
+            also(rt, v.scotopic)?;
+            also(rt, v.xyz.x)?;
+            also(rt, v.xyz.y)?;
+            also(rt, v.xyz.z)?;
+            also_xy(rt, v.xy)
         }
-        FiguresAnswer::Refused(refusal) => refused(refusal),
+        FiguresAnswer::Refused(refusal) => refused(rt, refusal),
     }
 }
 
-pub fn panel_figures(answer: PanelFiguresAnswer) {
-    space();
+pub fn panel_figures(rt: &impl Print, answer: PanelFiguresAnswer) -> io::Result<()> {
+    space(rt)?;
     match answer {
         PanelFiguresAnswer::Value(v) => {
-            number(v.xyz.x);
-            also(v.xyz.y);
-            also(v.xyz.z);
-            let colour = v.xy;
-            also_xy(colour);
+            number(rt, v.xyz.x)?;
+            also(rt, v.xyz.y)?;
+            also(rt, v.xyz.z)?;
+            also_xy(rt, v.xy)
         }
-        PanelFiguresAnswer::Refused(refusal) => refused(refusal),
+        PanelFiguresAnswer::Refused(refusal) => refused(rt, refusal),
     }
 }
 
-fn also_xy(answer: XyAnswer) {
+fn also_xy(rt: &impl Print, answer: XyAnswer) -> io::Result<()> {
     match answer {
         XyAnswer::Value(v) => {
-            also(v.x);
-            also(v.y);
+            also(rt, v.x)?;
+            also(rt, v.y)
         }
-        XyAnswer::Refused(_) => {
-            io::write_all(STDOUT_FILENO, b",-,-");
-        }
+        XyAnswer::Refused(_) => print!(rt; ",-,-"),
     }
 }

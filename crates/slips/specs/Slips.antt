@@ -12,7 +12,7 @@ use Rattle.efficacy.specs.Efficacy.{in_millilux}
 abbrev pub x_from_rounded : ℕ → ℕ → ℕ → ℕ
 x_from_rounded x y z = nearest (100000 * x) (x + y + z)
 
--- u' from the rounded x and y, as 4 x / (-2 x + 12 y + 3)
+-- u′ from the rounded x and y, as 4 x / (-2 x + 12 y + 3)
 abbrev pub u_from_rounded : ℕ → ℕ → ℕ
 u_from_rounded x y = nearest (400000 * x) (12 * y + 300000 - 2 * x)
 

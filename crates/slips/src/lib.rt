@@ -1,2 +1,4 @@
 // The slips that this trade makes, which the bench table shows up: definitions and theorems, no code.
+#![tactic(auto)]
+
 pub mod promises;

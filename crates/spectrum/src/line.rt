@@ -8,7 +8,7 @@ use crate::ends::lay_end;
 use crate::walk::{copy, place_of, walk};
 
 // Where the part of a row that carries weight begins: at the sample at or just below 360 nm, or at the first one.
-#[derive(Drop)]
+#[derive(Clone, Copy)]
 pub struct Begin {
     pub place: usize,
     pub wavelength: u32,

@@ -425,7 +425,7 @@ pub fn z_bar_10() -> [u64; 471]
     Z_BAR_10
 }
 
-// V', which is 0 below 380 and above 780 nm, at 10^13 to one, counted in the unit of each stretch.
+// V′, which is 0 below 380 and above 780 nm, at 10^13 to one, counted in the unit of each stretch.
 const V_PRIME: [u64; 471] = [
     0, 0, 0, 0, 0, 0, 0, 0, 0, 0, 0, 0, 0, 0, 0, 0, 0, 0, 0, 0, 589000, 665000, 752000, 854000,
     972000, 1108000, 1268000, 1453000, 1668000, 1918000, 2209000, 2547000, 2939000, 3394000,

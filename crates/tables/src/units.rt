@@ -2,14 +2,14 @@
 // a whole number of one power of ten that fits 32 bits. A table that needs fewer stretches has empty ones at its end.
 
 // The places below its end, from where the stretch before it ends, and the unit of their entries.
-#[derive(Drop)]
+#[derive(Clone, Copy)]
 pub struct Stretch {
     pub end: usize,
     pub unit: u32,
 }
 
 // Three stretches, and the unit of the rest.
-#[derive(Drop)]
+#[derive(Clone, Copy)]
 pub struct Units {
     pub first: Stretch,
     pub second: Stretch,

@@ -71,8 +71,8 @@ put_number_returns_2 t c =
     rw (decimal_more start.args.n long.if1.false (omega (arith, start.ranges.n)), ← long.before.digit.ensures)
     (joined rest.put-number.ensures put.put2.ensures)
 
-pub +put-number-spec : {M : Type 1} → statement M
-+put-number-spec = close μ_put_number λ t. put_number_lts.spec (claims t)
+pub +put_number_spec : {M : Type 1} → statement M
++put_number_spec = close μ_put_number λ t. put_number_lts.spec (claims t)
     (put_number_at t)
     put_number.Post
     (λ c κs. tt)
