@@ -23,7 +23,7 @@ to = $(DESTDIR)$(PREFIX)
 library: $(library).a $(library).so
 
 $(library).a: $(sources)
-	tools/prove $@ staticlib quailribbon
+	tools/prove $@ lib quailribbon
 
 $(library).so: $(library).a
 	$(CC) -shared -Wl,--whole-archive $< -Wl,--no-whole-archive -o $@
