@@ -13,6 +13,7 @@ pub fn divisor(observer: u32, illuminant: u32, step: u32) -> Short
     short_times_plus(white(observer, illuminant), step, joined(0, 0))
 }
 
+#[tactic(auto, using(tables::proofs::Lit::lit_sum_lem), unfolding(crate::specs::Panel::white_sum))]
 fn white(observer: u32, illuminant: u32) -> Short
     ensures { short result ≡ white_sum observer illuminant }
 {

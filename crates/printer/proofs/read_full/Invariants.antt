@@ -1,0 +1,9 @@
+-- What is read so far lies within the buffer; each turn that goes on reads some more.
+use Rattle.std.proofs.Common.{◌≤◌, ◌-◌, length}
+use Rattle.printer.proofs.read_full.Given as goal
+
+abbrev pub invariant-loop-count : goal.invariant-loop-count
+invariant-loop-count g l = l.count ≤ length l.bytes
+
+abbrev pub decreases-loop-count : goal.decreases-loop-count
+decreases-loop-count g l = length l.initial.bytes - l.count
