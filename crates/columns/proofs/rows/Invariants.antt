@@ -3,4 +3,4 @@ use Prim.Native.Nat.{◌≤◌}
 use Rattle.columns.proofs.rows.Given as goal
 
 abbrev pub invariant-loop-k : goal.invariant-loop-k
-invariant-loop-k l = l.k ≤ 471
+invariant-loop-k g l = l.k ≤ 471
