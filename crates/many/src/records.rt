@@ -36,7 +36,7 @@ fn cramped(rt: &impl Print, start: u32, step: u32, samples: &[u32], room: usize)
 
 // The length of the record and the sum of its bytes, what reading it gives, and what reading it damaged gives.
 fn written(rt: &impl Print, length: usize, bytes: &mut [u8], d: u64) -> io::Result<()>
-    requires do_value { list_length bytes.old ≡ 1331 }
+    requires bytes_length { list_length bytes.old ≡ 1331 }
     requires d_bound { d < 2147483647 }
 {
     if 1331 < length {

@@ -42,8 +42,8 @@ pub row_fits : (n k : ℕ) (vs : List ℕ) → Fit (replicate n k) vs → (i : �
 row_fits zero k [] none i = pow_pos k
 row_fits (suc n) k (v ∷ vs) (more h t) zero = h
 row_fits (suc n) k (v ∷ vs) (more h t) (suc i) = row_fits n k vs t i
-row_fits zero k (v ∷ vs) x'' i = elim x'' [ ]
-row_fits (suc n) k [] x3 i = elim x3 [ ]
+row_fits zero k (v ∷ vs) longer i = elim longer [ ]
+row_fits (suc n) k [] shorter i = elim shorter [ ]
 
 pub fit_zeros : (n k : ℕ) → Fit (replicate n k) (replicate n 0)
 fit_zeros zero k = none

@@ -59,7 +59,7 @@ pub fn read_record(bytes: &[u8], samples: &mut [u32]) -> RecordRead
 // LENGTH, PADDING, ROOM.
 pub fn unpack_record(bytes: &[u8], row: &mut [u32]) -> RecordRead
     ensures value { result ≡ unpack_answer bytes.now (length row.old) }
-    ensures row_after { row.new ≡ row_unpacked bytes.now row.old }
+    ensures row_unpacked { row.new ≡ row_unpacked bytes.now row.old }
 {
     let answer = head::read_header(bytes);
     let RecordRead::Read(said) = answer else {

@@ -21,10 +21,19 @@ fn main(rt: HostRuntime) -> io::Result<()> {
     print_named(&rt, "unending")
 }
 
-fn print_named<R: Files + Print + Eprint>(rt: &R, name: &str) -> io::Result<()> {
+fn print_named<R: Files + Print + Eprint + AllocGlobal>(rt: &R, name: &str) -> io::Result<()> {
     println!(rt; "{name}")?;
     match fs::open(rt, name) {
         Ok(mut from) => printer::print_report(&mut from, &mut io::writer(rt)),
-        Err(error) => eprintln!(rt; "{name}: {error}"),
+        Err(error) => print_failure(rt, name, error),
+    }
+}
+
+// Says what can't be opened and why, in the system's words alone: `std` puts the error's number in brackets behind them.
+fn print_failure<R: Eprint + AllocGlobal>(rt: &R, name: &str, error: io::Error) -> io::Result<()> {
+    let said = error.to_string(rt.alloc())?;
+    match said.as_str().split_once(" (os error ") {
+        Some((words, _)) => eprintln!(rt; "{name}: {words}"),
+        None => eprintln!(rt; "{name}: {said}"),
     }
 }

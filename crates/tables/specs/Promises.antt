@@ -25,10 +25,10 @@ pub record Columns : Type 0 where
   -- the code holds a curve's table in units, and no digit is lost
   pub no_digit_lost : (c : Curve) (k : ℕ) → value_of (units c) (in_units c) k ≡ weight_of c k
   -- 106.865469489595, 106.856917101172 and 106.892251278636 are printed for 1931
-  pub x̄-printed : twelve_decimals XBar ≡ 106865469489595
+  pub x̄_printed : twelve_decimals XBar ≡ 106865469489595
   pub ȳ_printed : twelve_decimals YBar ≡ 106856917101172
-  pub z̄-printed : twelve_decimals ZBar ≡ 106892251278636
+  pub z̄_printed : twelve_decimals ZBar ≡ 106892251278636
   -- 116.648519508908, 116.661877102312 and 116.673980514647 for 1964
-  pub x̄10-printed : twelve_decimals XBar10 ≡ 116648519508908
+  pub x̄10_printed : twelve_decimals XBar10 ≡ 116648519508908
   pub ȳ10_printed : twelve_decimals YBar10 ≡ 116661877102312
-  pub z̄10-printed : twelve_decimals ZBar10 ≡ 116673980514647
+  pub z̄10_printed : twelve_decimals ZBar10 ≡ 116673980514647

@@ -48,7 +48,7 @@ pub returns-in-Read : goal.returns-in-Read
 returns-in-Read c =
     let check = unpack_check c.args.bytes.now 531 in
     c.figures.ensures
-    ∙ ap (λ (xs : List ℕ). figures_of c.in-Read.said.start c.in-Read.said.step (take c.in-Read.said.count xs)) c.unpack_record.ensures.row_after
+    ∙ ap (λ (xs : List ℕ). figures_of c.in-Read.said.start c.in-Read.said.step (take c.in-Read.said.count xs)) c.unpack_record.ensures.row_unpacked
     ∙ spectrum_told check c.args.bytes.now c.in-Read.said (answer-3 c) lent figures_of
     ∙ sym (unpacked_figures c.args.bytes.now (told check c.args.bytes.now c.in-Read.said (answer-3 c)).0)
 

@@ -53,7 +53,7 @@ lent = replicate 531 0
 -- the row's first count are the record's samples
 row-1 : (c : goal.After-row-3-1) → take c.in-Read.said.count c.unpack_record-answer.new.row ≡ (samples_of (count_of c.args.bytes.now) c.args.bytes.now)
 row-1 c =
-    ap (take c.in-Read.said.count) c.unpack_record-answer.ensures.row_after
+    ap (take c.in-Read.said.count) c.unpack_record-answer.ensures.row_unpacked
     ∙ samples_told (unpack_check c.args.bytes.now 531) c.args.bytes.now c.in-Read.said (answer-2 c) lent
 
 row_length-1 : (c : goal.After-row-3-1) → length (take c.in-Read.said.count c.unpack_record-answer.new.row) ≡ count_of c.args.bytes.now
@@ -71,7 +71,7 @@ fine-2 c = told (unpack_check c.args.bytes.now 531) c.args.bytes.now c.in-Read.s
 -- the row's first count are the record's samples
 row-2 : (c : goal.In-Fine) → take c.in-Read.said.count c.unpack_record-answer.new.row ≡ (samples_of (count_of c.args.bytes.now) c.args.bytes.now)
 row-2 c =
-    ap (take c.in-Read.said.count) c.unpack_record-answer.ensures.row_after
+    ap (take c.in-Read.said.count) c.unpack_record-answer.ensures.row_unpacked
     ∙ samples_told (unpack_check c.args.bytes.now 531) c.args.bytes.now c.in-Read.said (answer-3 c) lent
 
 -- what giving the samples gives is what the reader's check does
@@ -99,7 +99,7 @@ fine-3 c = told (unpack_check c.args.bytes.now 531) c.args.bytes.now c.in-Read.s
 -- the row's first count are the record's samples
 row-3 : (c : goal.In-Refused) → take c.in-Read.said.count c.unpack_record-answer.new.row ≡ (samples_of (count_of c.args.bytes.now) c.args.bytes.now)
 row-3 c =
-    ap (take c.in-Read.said.count) c.unpack_record-answer.ensures.row_after
+    ap (take c.in-Read.said.count) c.unpack_record-answer.ensures.row_unpacked
     ∙ samples_told (unpack_check c.args.bytes.now 531) c.args.bytes.now c.in-Read.said (answer-4 c) lent
 
 -- what giving the samples gives is what the reader's check does

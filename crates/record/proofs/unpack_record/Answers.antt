@@ -23,7 +23,7 @@ returns-in_default c =
     let told = c.in_default.is in
     let answer = sym c.read_header-answer.ensures ∙ told in
     let e = header_refused bytes (length given.row.now) refusal (answer_refused (header_check bytes) (header (start_of bytes) (step_of bytes) (count_of bytes)) refusal answer) in
-    record { value = rw e told; row_after = rw e }
+    record { value = rw e told; row_unpacked = rw e }
 
 -- the header is fine, and what was read is what it says
 heading-1 :
@@ -110,7 +110,7 @@ pub returns-in-Fine : goal.returns-in-Fine
 returns-in-Fine c =
     let e = checked-1 c ∙ c.in-Fine.is in
     let samples = rw (part-2 c) at c.unpack.ensures in
-    record { value = rw e (ap read.Read (heading-3 c).1); row_after = rw e (ap (λ (xs : List ℕ). xs ++ drop c.in-Read.said.count c.args.row.now) samples ∙ ap (λ (n : ℕ). samples_of n c.args.bytes.now ++ drop n c.args.row.now) (count-3 c)) }
+    record { value = rw e (ap read.Read (heading-3 c).1); row_unpacked = rw e (ap (λ (xs : List ℕ). xs ++ drop c.in-Read.said.count c.args.row.now) samples ∙ ap (λ (n : ℕ). samples_of n c.args.bytes.now ++ drop n c.args.row.now) (count-3 c)) }
 
 -- the header is fine, and what was read is what it says
 heading-4 :
@@ -132,4 +132,4 @@ checked-2 c =
 pub returns-in-Refused : goal.returns-in-Refused
 returns-in-Refused c =
     let e = checked-2 c ∙ c.in-Refused.is in
-    record { value = rw e; row_after = rw e }
+    record { value = rw e; row_unpacked = rw e }

@@ -16,10 +16,10 @@ returns c =
       powers_column = powers_column;
       lit = lit_sum_lem;
       no_digit_lost = weighs;
-      x̄-printed = rw (column XBar).adds_up;
+      x̄_printed = rw (column XBar).adds_up;
       ȳ_printed = rw (column YBar).adds_up;
-      z̄-printed = rw (column ZBar).adds_up;
-      x̄10-printed = rw (column XBar10).adds_up;
+      z̄_printed = rw (column ZBar).adds_up;
+      x̄10_printed = rw (column XBar10).adds_up;
       ȳ10_printed = rw (column YBar10).adds_up;
-      z̄10-printed = rw (column ZBar10).adds_up;
+      z̄10_printed = rw (column ZBar10).adds_up;
     }
