@@ -37,3 +37,15 @@ fn print_failure<R: Eprint + AllocGlobal>(rt: &R, name: &str, error: io::Error) 
         None => eprintln!(rt; "{name}: {said}"),
     }
 }
+
+#[cfg(test)]
+mod tests {
+    use super::*;
+    use std::test::Fail;
+
+    #[test]
+    fn a_missing_record_ends_nothing(rt: HostRuntime) -> Result<(), Fail> {
+        print_named(&rt, "missing")?;
+        Ok(())
+    }
+}
