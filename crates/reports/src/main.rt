@@ -1,6 +1,8 @@
 // Writes the report of each record of data/, below its name.
 #![tactic(auto)]
 
+use arrayvec::ArrayString;
+use std::fmt::Write;
 use std::rt::Files;
 use std::{fs, io};
 
@@ -21,7 +23,7 @@ fn main(rt: HostRuntime) -> io::Result<()> {
     print_named(&rt, "unending")
 }
 
-fn print_named<R: Files + Print + Eprint + AllocGlobal>(rt: &R, name: &str) -> io::Result<()> {
+fn print_named<R: Files + Print + Eprint>(rt: &R, name: &str) -> io::Result<()> {
     println!(rt; "{name}")?;
     match fs::open(rt, name) {
         Ok(mut from) => printer::print_report(&mut from, &mut io::writer(rt)),
@@ -29,12 +31,19 @@ fn print_named<R: Files + Print + Eprint + AllocGlobal>(rt: &R, name: &str) -> i
     }
 }
 
-// Says what can't be opened and why, in the system's words alone: `std` puts the error's number in brackets behind them.
-fn print_failure<R: Eprint + AllocGlobal>(rt: &R, name: &str, error: io::Error) -> io::Result<()> {
-    let said = error.to_string(rt.alloc())?;
-    match said.as_str().split_once(" (os error ") {
-        Some((words, _)) => eprintln!(rt; "{name}: {words}"),
-        None => eprintln!(rt; "{name}: {said}"),
+// Says what can't be opened and why. What the system says of it is shorter than the text has room for.
+fn print_failure<R: Eprint>(rt: &R, name: &str, error: io::Error) -> io::Result<()> {
+    let mut said = ArrayString::<128>::new();
+    let _ = write!(said, "{error}");
+    let words = words_of(said.as_str());
+    eprintln!(rt; "{name}: {words}")
+}
+
+// The system's words alone: `std` puts the error's number in brackets behind them.
+fn words_of(said: &str) -> &str {
+    match said.split_once(" (os error ") {
+        Some((words, _)) => words,
+        None => said,
     }
 }
 
@@ -46,6 +55,13 @@ mod tests {
     #[test]
     fn a_missing_record_ends_nothing(rt: HostRuntime) -> Result<(), Fail> {
         print_named(&rt, "missing")?;
+        Ok(())
+    }
+
+    #[test]
+    fn the_number_is_cut_off(rt: HostRuntime) -> Result<(), Fail> {
+        assert_eq!(rt; words_of("No such file or directory (os error 2)"), "No such file or directory");
+        assert_eq!(rt; words_of("No such file or directory"), "No such file or directory");
         Ok(())
     }
 }

@@ -1,4 +1,4 @@
--- u' and v' are worked from the sums of an accepted light.
+-- u′ and v′ are worked from the sums of an accepted light.
 use mathlib.Core.Path.{◌∙◌}
 use Rattle.answers.proofs.FromSums.{from_sums_lem}
 use Rattle.readings.specs.Readings.{uv_of}
