@@ -60,8 +60,14 @@ mod tests {
 
     #[test]
     fn the_number_is_cut_off(rt: HostRuntime) -> Result<(), Fail> {
-        assert_eq!(rt; words_of("No such file or directory (os error 2)"), "No such file or directory");
-        assert_eq!(rt; words_of("No such file or directory"), "No such file or directory");
+        assert_eq!(rt;
+            words_of("No such file or directory (os error 2)"),
+            "No such file or directory"
+        );
+        assert_eq!(rt;
+            words_of("No such file or directory"),
+            "No such file or directory"
+        );
         Ok(())
     }
 }
