@@ -40,4 +40,4 @@ install: library
 	install -D -m 644 -t "$(to)/lib/pkgconfig" target/quailribbon.pc
 
 clean:
-	rm -rf target speed/target
+	rm -rf target speed/target crates/*/out
