@@ -1,15 +1,14 @@
 """The files of the tree that name every table, as text.
 
-Each table stands twice: for the contracts in full, with what is computed over it, and for the code, a curve's in units.
-The code has a function for each, with its proof, and `by_curve` an arm for each curve; `each` turns what is computed
-over the list of all curves into a law.
+Each table stands twice: for the contracts in full, with what is computed over it, and for the code as a static, a curve's
+in units. `each` turns what is computed over the list of all curves into a law.
 """
 
 from string import Template
 from typing import NamedTuple
 
-# The stretches of places that a table has in the code before the rest of it, each with a unit of its own.
-STRETCHES = ("first", "second", "third")
+# The stretches of places that a table has in the code, each with a unit of its own.
+STRETCHES = 4
 # The largest unit: weights are at 10^13 to one.
 LARGEST_POWER = 13
 # Fields that take no more room than this stand on one line where rt fmt lays out the code, and so wide are its lines.
@@ -41,9 +40,8 @@ def filled(template, **words):
 
 
 def for_each(template, tables):
-    """The template once for each table, with the arm that it is in: the first one's calls are named without it."""
-    arms = [""] + [f"-in-{table.variant}" for table in tables[1:]]
-    return "".join(filled(template, **table.words(), arm=arm) for table, arm in zip(tables, arms))
+    """The template once for each table."""
+    return "".join(filled(template, **table.words()) for table in tables)
 
 
 # The units of a curve's table
@@ -70,9 +68,9 @@ def stretches_of(table):
             raise Misfit(f"{table.name}: entry {entries[end]} fits 32 bits in no unit")
         end = ends[unit]
         stretches.append(Stretch(end, unit))
-    missing = len(STRETCHES) + 1 - len(stretches)
+    missing = STRETCHES - len(stretches)
     if missing < 0:
-        raise Misfit(f"{table.name}: needs {len(stretches)} stretches, and the code has {len(STRETCHES) + 1}")
+        raise Misfit(f"{table.name}: needs {len(stretches)} stretches, and the code has {STRETCHES}")
     return stretches + [Stretch(len(entries), 1)] * missing
 
 
@@ -92,77 +90,23 @@ def counts_of(table):
 # What the code reads
 
 NUMBERS = """\
-// The tables as the code reads them, from 360 to 830 nm: written by tools/tables. A table is built anew where it is asked for;
-// each has a function of its own, since one match over the numbers would look up every entry by the curve.
-ghost use Rattle.std.specs.Prelude.{◌≡◌};
-ghost use Rattle.tables.specs.Tables.{powers};
-ghost use Rattle.tables.specs.Held.{in_units};
-ghost use Rattle.tables.specs.declared.Curve.{Curve};
-ghost use Rattle.tables.specs.declared.Illuminant.{Illuminant};
-
-use crate::Illuminant;
-use crate::units::{Stretch, Units};
-$curves
-// The whole table of an illuminant.
-pub fn powers_of(illuminant: Illuminant) -> [u32; $count]
-    ensures { result ≡ powers illuminant }
-{
-    match illuminant {
-$arms    }
-}
-$illuminants"""
+// The tables as the code reads them, from 360 to 830 nm, each a static that is read in place: written by tools/tables.
+use crate::units::Stretch;
+$curves$illuminants"""
 
 CURVE_NUMBERS = """
 // $meaning, counted in the unit of each stretch.
-const $constant: [u64; $count] = [
+pub static $constant: [u64; $count] = [
 $numbers];
 
-pub const ${constant}_UNITS: Units = Units {
-$units};
-
-pub fn $name() -> [u64; $count]
-    ensures { result ≡ in_units Curve.$variant }
-{
-    $constant
-}
+pub static ${constant}_STRETCHES: [Stretch; $stretch_count] = [
+$stretches];
 """
 
 ILLUMINANT_NUMBERS = """
 // $meaning.
-const $constant: [u32; $count] = [
+pub static $constant: [u32; $count] = [
 $numbers];
-
-fn $name() -> [u32; $count]
-    ensures { result ≡ powers Illuminant.$variant }
-{
-    $constant
-}
-"""
-
-BY_CURVE = """\
-// A row summed by a curve's table, with an arm for each curve: written by tools/tables.
-ghost use Rattle.std.specs.Prelude.{◌≡◌};
-ghost use Rattle.exact.specs.Value.{short};
-ghost use Rattle.grid.specs.Check.{Within};
-ghost use Rattle.mixing.specs.Sum.{weighted};
-ghost use Rattle.tables.specs.Curves.{weight_of};
-ghost use Rattle.curves.specs.Work.{line_of};
-
-use crate::summed::sum;
-use exact::digits::Short;
-use tables::Curve;
-use tables::numbers::{
-$uses};
-
-// Of the row `low` or, where it comes in two, of high · 2^21 + low: the table is built once for both, and lent where it
-// is built, since a function that chose one would copy it.
-pub fn by_curve(curve: Curve, in_two: bool, high: &[u64; 471], low: &[u64; 471]) -> Short
-    requires { Within 10000000 high.now × Within 10000000 low.now }
-    ensures { short result ≡ weighted 471 (weight_of curve) (line_of in_two high.now low.now) }
-{
-    match curve {
-$arms    }
-}
 """
 
 
@@ -177,25 +121,28 @@ def lines_of(words):
     return "".join(f"{line}\n" for line in lines)
 
 
-def units_text(table):
-    stretches = stretches_of(table)
+def stretches_text(table):
     lines = []
-    for which, stretch in zip(STRETCHES, stretches):
+    for stretch in stretches_of(table):
         fields = [f"end: {stretch.end}", f"unit: {stretch.unit}"]
         if len(", ".join(fields)) <= SHORT:
-            lines += [f"    {which}: Stretch {{ {', '.join(fields)} }},\n"]
+            lines.append(f"Stretch {{ {', '.join(fields)} }},")
         else:
-            lines += [f"    {which}: Stretch {{\n", *(f"        {field},\n" for field in fields), "    },\n"]
-    return "".join([*lines, f"    rest: {stretches[-1].unit},\n"])
+            lines += ["Stretch {", *(f"    {field}," for field in fields), "},"]
+    return "".join(f"    {line}\n" for line in lines)
 
 
 def numbers_text(curves, illuminants):
     return filled(
         NUMBERS,
-        count=len(illuminants[0].entries),
-        arms=for_each("        Illuminant::$variant => $name(),\n", illuminants),
         curves="".join(
-            filled(CURVE_NUMBERS, **curve.words(), numbers=lines_of(counts_of(curve)), units=units_text(curve))
+            filled(
+                CURVE_NUMBERS,
+                **curve.words(),
+                numbers=lines_of(counts_of(curve)),
+                stretch_count=STRETCHES,
+                stretches=stretches_text(curve),
+            )
             for curve in curves
         ),
         illuminants="".join(
@@ -204,59 +151,20 @@ def numbers_text(curves, illuminants):
     )
 
 
-def by_curve_text(curves):
-    return filled(
-        BY_CURVE,
-        uses=lines_of(sorted(for_each("${constant}_UNITS $name ", curves).split())),
-        arms=for_each("        Curve::$variant => sum(&$name(), ${constant}_UNITS, in_two, high, low),\n", curves),
-    )
-
-
 # The proofs of the code
 
-CURVE_PROOF = """\
--- The numbers of the code are the table's, counted in its units: written by tools/tables.
-use mathlib.Core.Path.{refl}
+TABLE_PROOF = """\
+-- The numbers of the code are the tables', counted in their units: written by tools/tables.
 use Rattle.tables.specs.Tables.{table}
 use Rattle.tables.specs.Units.{unit_at}
 use Rattle.tables.specs.Held.{counted_from, in_units}
-use Rattle.tables.proofs.numbers.$name.Goals as goal
+use Rattle.tables.proofs.Curve.table.Goals as goal
+$answers"""
 
-pub returns : goal.returns
+TABLE_ANSWER = """
+pub returns-in-$variant-clause-counts : goal.returns-in-$variant-clause-counts
 unfolding in_units counted_from unit_at table
-returns c = refl
-"""
-
-ILLUMINANT_PROOF = """\
--- The numbers of the code are the table's: written by tools/tables.
-use mathlib.Core.Path.{refl}
-use Rattle.tables.specs.Tables.{powers}
-use Rattle.tables.proofs.numbers.$name.Goals as goal
-
-pub returns : goal.returns
-unfolding powers
-returns c = refl
-"""
-
-BY_CURVE_PROOF = """\
--- In each arm the table and the units are the curve's: written by tools/tables.
-use mathlib.Core.Path.{◌∙◌}
-use Rattle.tables.specs.declared.Curve.TheVariants.{$variants}
-use Rattle.tables.proofs.Held.{held}
-use Rattle.curves.proofs.ByCurve.{summed_by}
-use Rattle.curves.proofs.by_curve.by_curve.Goals as goal
-${requires}${returns}"""
-
-BY_CURVE_REQUIRES = """
-pub sum-requires$arm : goal.sum-requires$arm
-sum-requires$arm c =
-    (rw c.$name.ensures (held $variant), c.requires.0, c.requires.1)
-"""
-
-BY_CURVE_RETURNS = """
-pub returns-in-$variant : goal.returns-in-$variant
-returns-in-$variant c =
-    rw c.in-$variant.is (rw c.$name.ensures at c.sum$arm.ensures ∙ summed_by $variant _)
+returns-in-$variant-clause-counts c = rw c.in-$variant.is
 """
 
 EACH = """\
@@ -288,34 +196,13 @@ pub each_least : (f : Curve → ℕ) (least : ℕ) → map (λ c. leb least (f c
 each_least f least e c = leb-true least (f c) (each (λ c. leb least (f c)) (λ c. true) e c)
 """
 
-DETERMINED = """\
--- The functions that give the curves' tables are determined: written by tools/tables.
-use Rattle.quailribbon.proofs.Determined.{OneResult, same}
-$uses$lemmas"""
-
-DETERMINED_LEMMA = """
-one_$name : OneResult $name.Post
-one_$name k a r q e f p s = same p s
-"""
-
-
-def by_curve_proof(curves):
-    return filled(
-        BY_CURVE_PROOF,
-        variants=variants_of(curves),
-        requires=for_each(BY_CURVE_REQUIRES, curves),
-        returns=for_each(BY_CURVE_RETURNS, curves),
-    )
+def table_proof(curves):
+    return filled(TABLE_PROOF, answers=for_each(TABLE_ANSWER, curves))
 
 
 def each_text(curves):
     cases = "".join(f"    go {curve.variant} = at {place}\n" for place, curve in enumerate(curves))
     return filled(EACH, variants=variants_of(curves), first=curves[0].variant, cases=cases)
-
-
-def determined_text(curves):
-    uses = for_each("use Rattle.tables.proofs.numbers.$name.Reads as $name\n", curves)
-    return filled(DETERMINED, uses=uses, lemmas=for_each(DETERMINED_LEMMA, curves))
 
 
 # What the contracts read
@@ -339,12 +226,12 @@ $powers"""
 COLUMNS = """\
 -- What is computed over each table: written by tools/tables, and proved.
 use Rattle.std.specs.Prelude.{List, [], ◌∷◌, ℕ}
-use Rattle.tables.specs.Units.{stretch, stretches}
+use Rattle.tables.specs.Units.{stretch}
 use Rattle.tables.specs.declared.Curve.{Curve}
 use Rattle.tables.specs.declared.Curve.TheVariants.{$curves}
 use Rattle.tables.specs.declared.Illuminant.{Illuminant}
 use Rattle.tables.specs.declared.Illuminant.TheVariants.{$illuminants}
-use Rattle.tables.specs.declared.units.Units.{Units}
+use Rattle.tables.specs.declared.units.Stretch.{Stretch}
 
 -- every curve
 abbrev pub curves : List Curve
@@ -366,7 +253,7 @@ $powers_top
 abbrev pub lit_sum : Illuminant → Curve → ℕ
 $lit_sum
 -- the units in which the code counts a curve's entries, stretch by stretch
-abbrev pub units : Curve → Units
+abbrev pub units : Curve → List Stretch
 $units"""
 
 
@@ -414,8 +301,7 @@ def largest_of(table):
 
 
 def units_of(curve):
-    *stretches, rest = stretches_of(curve)
-    return f"stretches {' '.join(f'(stretch {stretch.end} {stretch.unit})' for stretch in stretches)} {rest.unit}"
+    return " ∷ ".join([*(f"stretch {stretch.end} {stretch.unit}" for stretch in stretches_of(curve)), "[]"])
 
 
 def lit_sums(illuminant, curves):
@@ -442,16 +328,10 @@ def columns_text(curves, illuminants):
 
 def texts_of(curves, illuminants):
     """Every file by its name."""
-    proofs = "crates/tables/proofs/numbers"
-    texts = {
+    return {
         "crates/tables/src/numbers.rt": numbers_text(curves, illuminants),
         "crates/tables/specs/Tables.antt": tables_text(curves, illuminants),
         "crates/tables/specs/Columns.antt": columns_text(curves, illuminants),
+        "crates/tables/proofs/Curve/table/Answers.antt": table_proof(curves),
         "crates/tables/proofs/Each.antt": each_text(curves),
-        "crates/curves/src/by_curve.rt": by_curve_text(curves),
-        "crates/curves/proofs/by_curve/by_curve/Answers.antt": by_curve_proof(curves),
-        "crates/quailribbon/proofs/DeterminedTables.antt": determined_text(curves),
     }
-    for template, tables in ((CURVE_PROOF, curves), (ILLUMINANT_PROOF, illuminants)):
-        texts |= {f"{proofs}/{table.name}/Answers.antt": filled(template, **table.words()) for table in tables}
-    return texts

@@ -1,3 +1,3 @@
 -- Laws of answers that are worked from sums.
 pub mod Values
-pub mod FromSums
+pub mod Fit

@@ -1,20 +1,14 @@
 -- Coordinates over one divisor: dark where it is 0, else each numerator's nearest. x and y are such, and so are u′ and v′.
-use mathlib.Core.Path.{◌≡◌, refl, sym}
-use mathlib.Core.Bool.{Bool, true, false, cond, not-eq-not}
-use mathlib.Core.List.{List, [], ◌∷◌, map}
-use Prim.Native.Nat.{ℕ, zero, suc, ◌+◌, ◌*◌, ◌≤◌, ◌<◌, zero-le}
-use native.Mathlib.Nat.{le_refl, le_trans, mul-le-mul_left}
-use native.Mathlib.Omega.{arith}
-use borrow.Author.Tests.{eqb-true, eqb-false, ne_eqb}
-use lib.Dec.{eqb}
-use lib.ListN.{get_or}
-use Rattle.grid.specs.Refusals.{DARK}
-use Rattle.grid.specs.Check.{refusal}
-use Rattle.grid.specs.Said.{Said, value, given, refused_with, RefusedAs}
+use Rattle.std.proofs.Common.{◌≡◌, refl, sym, Bool, true, false, cond, Ok, Err, Result, List, [], ◌∷◌, map, ℕ, zero, suc, ◌+◌, ◌*◌, ◌≤◌, ◌<◌, zero-le, nat_lt, ltb, get_or, arith}
+use Rattle.std.proofs.Math.Nat.{le_refl, le_trans, mul-le-mul_left}
+use borrow.Author.Tests.{ltb-true, ltb-false, lt-ltb}
+use Rattle.grid.specs.declared.refusals.Kind.TheVariants.{Dark}
+use Rattle.grid.specs.declared.refusals.Refusal.{Refusal}
+use Rattle.grid.specs.Refusals.{number_of}
+use Rattle.grid.specs.Check.{◌>>=◌, require, refusal}
+use Rattle.grid.specs.Said.{Said, value, given, refused_with, said, RefusedAs}
 use Rattle.mixing.proofs.Nearest.{nearest_bound}
 use Rattle.answers.specs.declared.Xy.{Xy}
-use Rattle.answers.specs.declared.XyAnswer.{XyAnswer}
-use Rattle.answers.specs.declared.UvAnswer.{UvAnswer}
 use Rattle.answers.specs.Worked.{in_hundred_thousandths, xy_over, xy_from, uv_divisor, uv_over, uv_from, on_chart, chart_from}
 use Rattle.answers.specs.Said.{said_xy, said_uv, said_on_chart}
 
@@ -24,7 +18,7 @@ each_over ns d = map (λ n. in_hundred_thousandths n d) ns
 
 -- these, or DARK where the divisor is 0
 unfoldable pub said_over : List ℕ → ℕ → Said
-said_over ns d = cond (eqb d 0) (refused_with (refusal DARK 0)) (given (each_over ns d) [])
+said_over ns d = cond (nat_lt 0 d) (given (each_over ns d) []) (refused_with (refusal Dark 0))
 
 -- each numerator, in hundred-thousandths, is at most so many divisors
 abbrev AtMost : List ℕ → List ℕ → ℕ → Type 0
@@ -38,53 +32,55 @@ each_most (n ∷ ns) [] d m i = absurd m
 each_most (n ∷ ns) (t ∷ ts) d m zero = nearest_bound t (100000 * n) d m.0
 each_most (n ∷ ns) (t ∷ ts) d m (suc i) = each_most ns ts d m.1 i
 
-pub over_none : (ns : List ℕ) → said_over ns 0 ≡ refused_with (refusal DARK 0)
+pub over_none : (ns : List ℕ) → said_over ns 0 ≡ refused_with (refusal Dark 0)
 unfolding said_over
 over_none ns = refl
 
 module _ (ns : List ℕ) (d : ℕ) where
   -- coordinates that are not dark have a divisor
-  over_lit : ((said_over ns d).number ≡ DARK → ⊥) → 0 < d
+  over_lit : ((said_over ns d).number ≡ number_of Dark → ⊥) → 0 < d
   unfolding said_over
-  over_lit light =
-      let some = eqb-false d 0 ((not-eq-not {a = eqb d 0} {b = false}).0 (λ p. light (rw p))) in
-      omega arith
+  over_lit light = go (nat_lt 0 d) refl
+    where
+      go : (b : Bool) → nat_lt 0 d ≡ b → 0 < d
+      go true e = ltb-true 0 d e
+      go false e = absurd (light (rw e))
 
   pub over_given : 0 < d → said_over ns d ≡ given (each_over ns d) []
   unfolding said_over
-  over_given h = rw (ne_eqb d 0 (λ e. omega arith))
+  over_given h = rw (lt-ltb 0 d h)
 
   -- so they are given
-  over_unless_dark : ((said_over ns d).number ≡ DARK → ⊥) → (said_over ns d).number ≡ 0
+  over_unless_dark : ((said_over ns d).number ≡ number_of Dark → ⊥) → (said_over ns d).number ≡ 0
   over_unless_dark light = rw (over_given (over_lit light))
 
   over_most : (ts : List ℕ) → AtMost ns ts d → (i : ℕ) → value (said_over ns d) i ≤ get_or ts i 0
   unfolding said_over
-  over_most ts m = go (eqb d 0)
+  over_most ts m = go (nat_lt 0 d)
     where
-      go : (b : Bool) (i : ℕ) → value (cond b (refused_with (refusal DARK 0)) (given (each_over ns d) [])) i ≤ get_or ts i 0
-      go true i = zero-le
-      go false i = each_most ns ts d m i
+      go : (b : Bool) (i : ℕ) → value (cond b (given (each_over ns d) []) (refused_with (refusal Dark 0))) i ≤ get_or ts i 0
+      go true i = each_most ns ts d m i
+      go false i = zero-le
 
--- what is said of one of two answers is one of what is said of both
-said_cond : {A : Type 0} (said : A → Said) (b : Bool) (dark lit : A) → said (cond b dark lit) ≡ cond b (said dark) (said lit)
-said_cond said true dark lit = refl
-said_cond said false dark lit = refl
+-- what is said of an answer that a test is required for
+said_required : {A : Type 0} (says : A → Said) (b : Bool) (x : A) → said says (require b Dark >>= (λ _. Ok x)) ≡ cond b (says x) (refused_with (refusal Dark 0))
+said_required says true x = refl
+said_required says false x = refl
 
 module _ (x y z : ℕ) where
   pub xy_is : said_xy (xy_from x y z) ≡ said_over (x ∷ y ∷ []) (x + y + z)
   unfolding xy_from said_over
-  xy_is = said_cond said_xy (eqb (x + y + z) 0) (XyAnswer.Refused (refusal DARK 0)) (XyAnswer.Value (xy_over x y z))
+  xy_is = said_required _ (nat_lt 0 (x + y + z)) (xy_over x y z)
 
   pub uv_is : said_uv (uv_from x y z) ≡ said_over (4 * x ∷ 9 * y ∷ []) (uv_divisor x y z)
   unfolding uv_from said_over
-  uv_is = said_cond said_uv (eqb (uv_divisor x y z) 0) (UvAnswer.Refused (refusal DARK 0)) (UvAnswer.Value (uv_over x y z))
+  uv_is = said_required _ (nat_lt 0 (uv_divisor x y z)) (uv_over x y z)
 
-  pub xy_unless_dark : ((said_xy (xy_from x y z)).number ≡ DARK → ⊥) → (said_xy (xy_from x y z)).number ≡ 0
+  pub xy_unless_dark : ((said_xy (xy_from x y z)).number ≡ number_of Dark → ⊥) → (said_xy (xy_from x y z)).number ≡ 0
   xy_unless_dark = rw xy_is (over_unless_dark (x ∷ y ∷ []) (x + y + z))
 
   -- x and y that are given have a divisor
-  pub xy_lit : (v : Xy) → xy_from x y z ≡ XyAnswer.Value v → 0 < x + y + z
+  pub xy_lit : (v : Xy) → xy_from x y z ≡ Ok v → 0 < x + y + z
   xy_lit v e = over_lit (x ∷ y ∷ []) (x + y + z) (λ dark. let number = rw e at (rw (sym xy_is) at dark) in omega arith)
 
   -- each is at most 1
@@ -106,35 +102,34 @@ module _ (x y z : ℕ) where
   uv_most = rw uv_is (over_most (4 * x ∷ 9 * y ∷ []) (uv_divisor x y z) (400000 ∷ 60000 ∷ []) (omega arith, (omega arith, tt)))
 
   -- the two divisors are 0 together
-  together : eqb (uv_divisor x y z) 0 ≡ eqb (x + y + z) 0
-  together = go (eqb (uv_divisor x y z) 0) (eqb (x + y + z) 0) refl refl
+  together : nat_lt 0 (uv_divisor x y z) ≡ nat_lt 0 (x + y + z)
+  together = go (nat_lt 0 (uv_divisor x y z)) (nat_lt 0 (x + y + z)) refl refl
     where
-      go : (b c : Bool) → eqb (uv_divisor x y z) 0 ≡ b → eqb (x + y + z) 0 ≡ c → b ≡ c
+      go : (b c : Bool) → nat_lt 0 (uv_divisor x y z) ≡ b → nat_lt 0 (x + y + z) ≡ c → b ≡ c
       go true true p q = refl
       go false false p q = refl
-      go true false p q = absurd (let none = eqb-true (uv_divisor x y z) 0 p in eqb-false (x + y + z) 0 q (omega arith))
-      go false true p q = absurd (let none = eqb-true (x + y + z) 0 q in eqb-false (uv_divisor x y z) 0 p (omega arith))
+      go true false p q = absurd (let some = ltb-true 0 (uv_divisor x y z) p in let none = ltb-false 0 (x + y + z) q in omega arith)
+      go false true p q = absurd (let none = ltb-false 0 (uv_divisor x y z) p in let some = ltb-true 0 (x + y + z) q in omega arith)
 
   -- so u′ and v′ are dark where x and y are
   pub uv_refused : RefusedAs (said_xy (xy_from x y z)) (said_uv (uv_from x y z))
   unfolding xy_from uv_from
-  uv_refused = rw together (go (eqb (x + y + z) 0))
+  uv_refused = rw together (go (nat_lt 0 (x + y + z)))
     where
       go :
           (b : Bool) →
-          RefusedAs (said_xy (cond b (XyAnswer.Refused (refusal DARK 0)) (XyAnswer.Value (xy_over x y z))))
-          (said_uv (cond b (UvAnswer.Refused (refusal DARK 0)) (UvAnswer.Value (uv_over x y z))))
+          RefusedAs (said_xy (require b Dark >>= (λ _. Ok (xy_over x y z)))) (said_uv (require b Dark >>= (λ _. Ok (uv_over x y z))))
       go true = record { same_number = refl; same_place = refl }
       go false = record { same_number = refl; same_place = refl }
 
   -- and so is the chart
   pub chart_refused : RefusedAs (said_xy (xy_from x y z)) (said_on_chart (chart_from x y z))
   unfolding xy_from on_chart
-  chart_refused = go (eqb (x + y + z) 0)
+  chart_refused = go (nat_lt 0 (x + y + z))
     where
       go :
           (b : Bool) →
-          let xy = cond b (XyAnswer.Refused (refusal DARK 0)) (XyAnswer.Value (xy_over x y z)) in
+          let xy = require b Dark >>= (λ _. Ok (xy_over x y z)) in
           RefusedAs (said_xy xy) (said_on_chart (on_chart xy (uv_over x y z)))
       go true = record { same_number = refl; same_place = refl }
       go false = record { same_number = refl; same_place = refl }

@@ -1,4 +1,4 @@
 -- Definitions of the crate `answers`.
 pub mod Worked
-pub mod FromSums
 pub mod Said
+pub mod Sums

@@ -1,14 +1,13 @@
 -- What exact sums give: nearest quotients, coordinates, and the chart's floats.
-use Rattle.std.specs.Prelude.{cond, ℕ, ◌+◌, ◌*◌, pos, Float, eqb}
+use Rattle.std.specs.Prelude.{Result, Ok, Err, ℕ, ◌+◌, ◌*◌, pos, Float, nat_lt}
 use Rattle.std.specs.Float.{binary64}
 use Rattle.std.specs.Float.Ieee.{div, of_int}
-use Rattle.grid.specs.Refusals.{DARK}
-use Rattle.grid.specs.Check.{refusal}
+use Rattle.grid.specs.declared.refusals.Kind.TheVariants.{Dark}
+use Rattle.grid.specs.declared.refusals.Refusal.{Refusal}
+use Rattle.grid.specs.Check.{◌>>=◌, require}
 use Rattle.mixing.specs.Nearest.{nearest}
 use Rattle.answers.specs.declared.Xyz.{Xyz}
-use Rattle.answers.specs.declared.XyAnswer.{XyAnswer}
 use Rattle.answers.specs.declared.Xy.{Xy}
-use Rattle.answers.specs.declared.UvAnswer.{UvAnswer}
 use Rattle.answers.specs.declared.Uv.{Uv}
 use Rattle.answers.specs.declared.ChartPoint.{ChartPoint}
 use Rattle.answers.specs.declared.OnChart.{OnChart}
@@ -26,8 +25,10 @@ abbrev pub xy_over : ℕ → ℕ → ℕ → Xy
 xy_over x y z = record { x = in_hundred_thousandths x (x + y + z); y = in_hundred_thousandths y (x + y + z) }
 
 -- those, or DARK where the divisor is 0
-unfoldable pub xy_from : ℕ → ℕ → ℕ → XyAnswer
-xy_from x y z = cond (eqb (x + y + z) 0) (XyAnswer.Refused (refusal DARK 0)) (XyAnswer.Value (xy_over x y z))
+unfoldable pub xy_from : ℕ → ℕ → ℕ → Result Xy Refusal
+xy_from x y z = do
+  _ ← require (nat_lt 0 (x + y + z)) Dark
+  Ok (xy_over x y z)
 
 -- X + 15 Y + 3 Z
 abbrev pub uv_divisor : ℕ → ℕ → ℕ → ℕ
@@ -39,8 +40,10 @@ uv_over x y z =
     record { u = in_hundred_thousandths (4 * x) (uv_divisor x y z); v = in_hundred_thousandths (9 * y) (uv_divisor x y z) }
 
 -- those, or DARK where the divisor is 0
-unfoldable pub uv_from : ℕ → ℕ → ℕ → UvAnswer
-uv_from x y z = cond (eqb (uv_divisor x y z) 0) (UvAnswer.Refused (refusal DARK 0)) (UvAnswer.Value (uv_over x y z))
+unfoldable pub uv_from : ℕ → ℕ → ℕ → Result Uv Refusal
+uv_from x y z = do
+  _ ← require (nat_lt 0 (uv_divisor x y z)) Dark
+  Ok (uv_over x y z)
 
 -- a whole number of hundred-thousandths, made a float and divided once by 100000.0
 unfoldable pub coordinate_float : ℕ → Float
@@ -52,9 +55,9 @@ chart_point xy uv =
     record { x = coordinate_float xy.x; y = coordinate_float xy.y; u = coordinate_float uv.u; v = coordinate_float uv.v }
 
 -- a point where x and y are given, else dark
-unfoldable pub on_chart : XyAnswer → Uv → OnChart
-on_chart (XyAnswer.Value xy) uv = OnChart.Point (chart_point xy uv)
-on_chart (XyAnswer.Refused r) uv = OnChart.Dark
+unfoldable pub on_chart : Result Xy Refusal → Uv → OnChart
+on_chart (Ok xy) uv = OnChart.Point (chart_point xy uv)
+on_chart (Err r) uv = OnChart.Dark
 
 -- where three sums stand on the chart
 abbrev pub chart_from : ℕ → ℕ → ℕ → OnChart

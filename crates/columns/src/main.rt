@@ -3,7 +3,7 @@
 
 ghost use Rattle.std.specs.Prelude.{◌<◌};
 
-use answers::XyAnswer;
+use answers::Xy;
 use printed::{X, X_10, Y, Y_10};
 use std::io;
 
@@ -19,16 +19,29 @@ fn main(rt: HostRuntime) -> io::Result<()> {
     )?;
     print!(rt; "`columns` makes this page.\n")?;
     print!(rt; "\n## Gaps of more than one unit\n\n")?;
-    both_observers(&rt, 2, 100000)?;
+    both_observers(
+        &rt,
+        Apart {
+            least: 2,
+            most: 100000,
+        },
+    )?;
     print!(rt; "\n## Gaps of one unit\n\n")?;
-    both_observers(&rt, 1, 1)
+    both_observers(&rt, Apart { least: 1, most: 1 })
+}
+
+// How far apart a printed number and ours are, to be listed.
+#[derive(Clone, Copy)]
+struct Apart {
+    least: u32,
+    most: u32,
 }
 
 // The gaps in a range, of both observers.
-fn both_observers(rt: &impl Print, low: u32, high: u32) -> io::Result<()> {
+fn both_observers(rt: &impl Print, apart: Apart) -> io::Result<()> {
     print!(rt; "| observer | nm | coordinate | printed | ours |\n|---|---|---|---|---|\n")?;
-    rows(rt, 2, &X, &Y, low, high)?;
-    rows(rt, 10, &X_10, &Y_10, low, high)
+    rows(rt, 2, &X, &Y, apart)?;
+    rows(rt, 10, &X_10, &Y_10, apart)
 }
 
 fn rows(
@@ -36,34 +49,26 @@ fn rows(
     observer: u32,
     xs: &[u32; 471],
     ys: &[u32; 471],
-    low: u32,
-    high: u32,
+    apart: Apart,
 ) -> io::Result<()> {
-    for k in 0..471 {
-        row(rt, observer, k, xs[k], ys[k], low, high)?;
+    for (k, (&x, &y)) in xs.iter().zip(ys).enumerate() {
+        row(rt, observer, k, Xy { x, y }, apart)?;
     }
     Ok(())
 }
 
-fn row(
-    rt: &impl Print,
-    observer: u32,
-    k: usize,
-    x: u32,
-    y: u32,
-    low: u32,
-    high: u32,
-) -> io::Result<()>
+// The gaps of light at one place alone.
+fn row(rt: &impl Print, observer: u32, k: usize, printed: Xy, apart: Apart) -> io::Result<()>
     requires { k < 471 }
 {
     let mut samples = [0u32; 471];
     samples[k] = 1000000;
     match readings::colour::xy(observer, 360, 1, &samples) {
-        XyAnswer::Value(ours) => {
-            gap(rt, observer, k, "x", x, ours.x, low, high)?;
-            gap(rt, observer, k, "y", y, ours.y, low, high)
+        Ok(ours) => {
+            gap(rt, observer, k, "x", printed.x, ours.x, apart)?;
+            gap(rt, observer, k, "y", printed.y, ours.y, apart)
         }
-        XyAnswer::Refused(_) => print!(rt; "refused\n"),
+        Err(_) => print!(rt; "refused\n"),
     }
 }
 
@@ -75,27 +80,14 @@ fn gap(
     name: &str,
     printed: u32,
     ours: u32,
-    low: u32,
-    high: u32,
+    apart: Apart,
 ) -> io::Result<()>
     requires { k < 471 }
 {
-    let apart = if printed < ours {
-        ours - printed
-    } else {
-        printed - ours
-    };
-    if apart < low || high < apart {
+    let gap = printed.abs_diff(ours);
+    if gap < apart.least || apart.most < gap {
         return Ok(());
     }
-    cell(rt, observer as u64)?;
-    cell(rt, 360 + k as u64)?;
-    print!(rt; "| {name} ")?;
-    cell(rt, printed as u64)?;
-    cell(rt, ours as u64)?;
-    print!(rt; "|\n")
-}
-
-fn cell(rt: &impl Print, number: u64) -> io::Result<()> {
-    print!(rt; "| {number} ")
+    let wavelength = 360 + k;
+    print!(rt; "| {observer} | {wavelength} | {name} | {printed} | {ours} |\n")
 }

@@ -1,5 +1,4 @@
 -- Laws of weighted rows.
-pub mod Sums
-pub mod Rows
-pub mod ByCurve
+pub mod Places
+pub mod Stretches
 pub mod Product

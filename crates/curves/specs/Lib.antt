@@ -1,4 +1,2 @@
 -- Definitions of the crate `curves`.
-pub mod Observer
 pub mod Lit
-pub mod Work

@@ -2,13 +2,12 @@
 // and over that of a cone-fundamental curve, which has no peak factor.
 #![tactic(auto)]
 
-ghost use Rattle.std.specs.Prelude.{◌≡◌, ◌*◌, ◌≤◌};
-ghost use Rattle.exact.specs.Value.{short};
+ghost use Rattle.std.specs.Prelude.{◌≡◌, ◌*◌};
 ghost use Rattle.efficacy.specs.Divisors.{divisor_of};
 
-use exact::digits::{Short, joined};
 use tables::Curve;
 
+/// What a sum is multiplied by.
 pub const FACTOR: u32 = 683;
 
 // The values at 555.017 nm, at 10^16 to one.
@@ -22,12 +21,11 @@ const V_F: u64 = 9994698474000000;
 
 const V_F_10: u64 = 9997803305000000;
 
-// s times the value that the curve's efficacy is divided by.
-pub fn divisor(curve: Curve, step: u32) -> Short
-    requires { step ≤ 10 }
-    ensures { short result ≡ step * divisor_of curve }
+/// What it is divided by: s times the value at 555.017 nm.
+pub fn divisor(curve: Curve, step: u32) -> u128
+    ensures { result ≡ step * divisor_of curve }
 {
-    joined(0, step as u64 * at_reference(curve))
+    step as u128 * at_reference(curve) as u128
 }
 
 // x̄ and z̄ have that of ȳ, which is V or V10.
@@ -35,12 +33,8 @@ fn at_reference(curve: Curve) -> u64
     ensures { result ≡ divisor_of curve }
 {
     match curve {
-        Curve::XBar => V,
-        Curve::YBar => V,
-        Curve::ZBar => V,
-        Curve::XBar10 => V_10,
-        Curve::YBar10 => V_10,
-        Curve::ZBar10 => V_10,
+        Curve::XBar | Curve::YBar | Curve::ZBar => V,
+        Curve::XBar10 | Curve::YBar10 | Curve::ZBar10 => V_10,
         Curve::VPrime => V_PRIME,
         Curve::VF => V_F,
         Curve::VF10 => V_F_10,

@@ -1,4 +1,2 @@
--- Laws of digits and of quotients, over any base.
-pub mod Carry
-pub mod Order
+-- Laws of quotients.
 pub mod Quotient

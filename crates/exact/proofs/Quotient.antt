@@ -1,22 +1,35 @@
--- Laws of quotients: one of leading digits is never too large, and a quotient is known from what is left.
-use mathlib.Core.Path.{◌≡◌, sym}
-use Prim.Native.Nat.{ℕ, ◌+◌, ◌*◌, ◌/◌, ◌≤◌, ◌<◌}
-use native.Mathlib.Nat.{div-mul-le_self, mul-le-mul_left, mul-le-mul_right, div-eq_of_lt-le, div-lt_iff_lt-mul}
-use native.Mathlib.Omega.{arith}
-use Rattle.mixing.proofs.Nearest.{nearest_half}
-use Rattle.exact.specs.Fits.{Fits}
+-- A nearest quotient by the whole one and its rest.
+use Rattle.std.proofs.Common.{◌≡◌, ℕ, ◌+◌, ◌*◌, ◌-◌, ◌/◌, ◌≤◌, ◌<◌, arith, sym, ◌∙◌}
+use Rattle.std.proofs.lemmas.Nat.{div-mul-add}
+use Rattle.std.proofs.Math.Nat.{mul_left_comm, div-mul-le_self, lt-div-mul-add, add-mul}
+use Rattle.mixing.specs.Nearest.{nearest}
 
--- a of p's fit into n, and b of them hold d: a / b times d is at most n
-pub leading : (p a b n d : ℕ) → a * p ≤ n → d ≤ b * p → a / b * d ≤ n
-leading p a b n d fits holds = omega (arith, mul-le-mul_left (a / b) holds, mul-le-mul_right p (div-mul-le_self a b))
+-- with a rest below the divisor: below half of it the quotient stays, and from half of it on it is one more
+module _ (q rest d : ℕ) where
+  twice : q * (2 * d) ≡ 2 * (q * d)
+  twice = mul_left_comm q 2 d
 
--- what is left is below the divisor
-pub found : (n d q rest : ℕ) → q * d + rest ≡ n → rest < d → n / d ≡ q
-found n d q rest e small = div-eq_of_lt-le d (omega arith) (omega arith)
+  down : rest + rest < d → nearest (q * d + rest) d ≡ q
+  unfolding nearest
+  down low =
+      let same : 2 * (q * d + rest) + d ≡ q * (2 * d) + (2 * rest + d) = omega (arith, twice) in
+      rw same (div-mul-add q (2 * d) (2 * rest + d) (omega arith))
 
--- with half of d added n is below 2^32 of d's, where the nearest of n / d is below 2^32
-pub under : (n d : ℕ) → Fits n d → n + d / 2 < d * 4294967296
-under n d fits =
-    let most = fits.most in
-    let less : (n + d / 2) / d < 4294967296 = rw (sym (nearest_half n d)) (omega arith) in
-    omega (arith, (div-lt_iff_lt-mul fits.divisor).0 less)
+  up : rest < d → d ≤ rest + rest → nearest (q * d + rest) d ≡ q + 1
+  unfolding nearest
+  up below high =
+      let same : 2 * (q * d + rest) + d ≡ (q + 1) * (2 * d) + (2 * rest + d - 2 * d) = omega (arith, twice, add-mul q 1 (2 * d)) in
+      rw same (div-mul-add (q + 1) (2 * d) (2 * rest + d - 2 * d) (omega arith))
+
+module _ (n d : ℕ) (pos : 0 < d) where
+  parts : n ≡ n / d * d + (n - n / d * d)
+  parts = omega (arith, div-mul-le_self n d)
+
+  below : n - n / d * d < d
+  below = omega (arith, lt-div-mul-add {a = n} {b = d} pos)
+
+  pub stays : n - n / d * d < d - (n - n / d * d) → n / d ≡ nearest n d
+  stays low = sym (down (n / d) (n - n / d * d) d (omega arith)) ∙ rw (← parts)
+
+  pub goes_up : d - (n - n / d * d) ≤ n - n / d * d → n / d + 1 ≡ nearest n d
+  goes_up high = sym (up (n / d) (n - n / d * d) d below (omega arith)) ∙ rw (← parts)

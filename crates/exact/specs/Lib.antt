@@ -1,3 +1,2 @@
 -- Definitions of the crate `exact`.
-pub mod Value
 pub mod Fits

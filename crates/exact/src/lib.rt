@@ -1,5 +1,21 @@
-// Whole numbers past 64 bits, by value: product and sum, half, and the nearest quotient, each exact.
+// The nearest quotient of two numbers past 64 bits.
 #![tactic(auto)]
 
-pub mod digits;
-pub mod divide;
+ghost use Rattle.std.specs.Prelude.{◌≡◌};
+ghost use Rattle.mixing.specs.Nearest.{nearest};
+ghost use Rattle.exact.specs.Fits.{Fits};
+
+/// n / d, nearest, halves up.
+pub fn nearest(n: u128, d: u128) -> u32
+    requires { Fits n d }
+    ensures { result ≡ nearest n d }
+{
+    let quotient = n / d;
+    let rest = n - quotient * d;
+    // Twice the rest may pass 128 bits.
+    if rest < d - rest {
+        quotient as u32
+    } else {
+        quotient as u32 + 1
+    }
+}

@@ -6,17 +6,19 @@ use Prim.Native.Nat.{ℕ}
 use lib.Dec.{T, eqb, eqb→eq}
 use lib.Ieee.{Float}
 use Rattle.grid.specs.Said.{Said}
-use Rattle.grid.specs.Check.{grid_check, limit_check, light_check}
+use Rattle.grid.specs.Check.{grid_check, limit_check, spectrum_check}
 use Rattle.mixing.specs.Nearest.{nearest}
 use Rattle.mixing.specs.Sum.{total, weighted}
 use Rattle.mixing.specs.Mixture.{mix, mixture}
 use Rattle.tables.specs.Tables.{table, powers}
 use Rattle.spectrum.specs.Line.{line_at, end_rule, W, T as T'}
+use Rattle.spectrum.specs.Spectrum.{spectrum_of}
 use Rattle.answers.specs.Worked.{xy_from, uv_from}
 use Rattle.panel.specs.Figures.{panel_figures_of}
-use Rattle.panel.specs.Panel.{setting_check, panel_check, white_sum, panel_xyz_of, panel_xy_of, panel_uv_of}
+use Rattle.panel.specs.Panel.{white_sum, panel_xyz_of, panel_xy_of, panel_uv_of}
+use Rattle.panel.specs.Panel.{seen_of as panel_seen_of, sums_of as panel_sums_of}
 use Rattle.efficacy.specs.Efficacy.{at_reference}
-use Rattle.readings.specs.Readings.{illuminance_of, mesopic_of, xyz_of, xy_of, uv_of}
+use Rattle.readings.specs.Readings.{illuminance_of, mesopic_of, seen_of, sums_of, xyz_of, xy_of, uv_of}
 use Rattle.figures.specs.Asked.{answer_of}
 use Rattle.figures.specs.Rows.{Row, rows}
 use Rattle.figures.specs.Promises.{Holds}
@@ -91,5 +93,5 @@ holds (r ∷ rs) t = (
 
 -- the test, computed over the whole table
 pub passes : T (test rows)
-unfolding test is_same same_numbers has_no_floats rows answer_of panel_xyz_of panel_xy_of panel_uv_of panel_figures_of panel_check setting_check white_sum illuminance_of mesopic_of xyz_of xy_of uv_of xy_from uv_from light_check grid_check limit_check W weighted total T' line_at end_rule at_reference table powers nearest mix mixture
+unfolding test is_same same_numbers has_no_floats rows answer_of panel_xyz_of panel_xy_of panel_uv_of panel_figures_of panel_seen_of panel_sums_of white_sum illuminance_of mesopic_of seen_of sums_of xyz_of xy_of uv_of xy_from uv_from spectrum_of spectrum_check grid_check limit_check W weighted total T' line_at end_rule at_reference table powers nearest mix mixture
 passes = tt

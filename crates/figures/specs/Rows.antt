@@ -3,8 +3,7 @@
 -- numbers here too, so that the table holds the names to them.
 use Rattle.std.specs.Prelude.{List, [], ◌∷◌, ◌++◌, ℕ, ◌-◌, replicate}
 use Rattle.mixing.specs.Mixture.{mix, mixture}
-use Rattle.grid.specs.Said.{Said, given, refused_with}
-use Rattle.grid.specs.Check.{refusal}
+use Rattle.grid.specs.Said.{Said, given}
 use Rattle.figures.specs.Asked.{Asked, photopic, scotopic, photopic10, research, mesopic, xyz, xy, uv, panel_xyz, panel_xy, panel_uv, panel_figures}
 
 -- an input, and what it must give
@@ -16,7 +15,7 @@ abbrev gives : Asked → List ℕ → Row
 gives asked vs = record { asked = asked; answer = given vs [] }
 
 abbrev refuses : Asked → ℕ → ℕ → Row
-refuses asked number place = record { asked = asked; answer = refused_with (refusal number place) }
+refuses asked number place = record { asked = asked; answer = record { number = number; place = place; values = []; floats = [] } }
 
 -- n samples, all 0 but v at place i
 abbrev pub lone : ℕ → ℕ → ℕ → List ℕ

@@ -7,22 +7,10 @@ use native.Mathlib.Nat.{mul-le-mul_right}
 use native.Mathlib.Omega.{arith}
 use borrow.Author.Tests.{leb-true, ltb-true, eqb-true}
 use lib.Dec.{leb, ltb, eqb}
-use Rattle.grid.specs.Refusals.{STEP, START, COUNT}
-use Rattle.grid.specs.Check.{grid_check, is_step, is_start, is_count, last_of, require, refusal}
-use Rattle.grid.specs.declared.Check.TheVariants.{Fine}
-use Rattle.grid.proofs.Limit.{passed}
-
--- a grid that is accepted
-pub record OnGrid (a s n : ℕ) : Type 0 where
-  pub step_allowed : is_step s ≡ true
-  pub step_low : 1 ≤ s
-  pub step_high : s ≤ 10
-  pub start_low : 300 ≤ a
-  pub start_high : a ≤ 380
-  pub some : 1 ≤ n
-  pub many : n ≤ 531
-  pub last_low : 780 ≤ a + s * (n - 1)
-  pub last_high : a + s * (n - 1) ≤ 830
+use Rattle.grid.specs.declared.refusals.Kind.TheVariants.{Step, Start, Count}
+use Rattle.grid.specs.Accepted.{OnGrid}
+use Rattle.grid.specs.Check.{Fine, grid_check, is_step, is_start, is_count, last_of, require, ◌>>=◌}
+use Rattle.grid.proofs.Limit.{both_fine, passed}
 
 pub both : (b c : Bool) → (b && c) ≡ true → (b ≡ true) × (c ≡ true)
 both true c e = (refl, e)
@@ -54,18 +42,20 @@ start_range a e = let h = both (leb 300 a) (leb a 380) e in (leb-true 300 a h.0,
 pub accepted : (a s n : ℕ) → grid_check a s n ≡ Fine → OnGrid a s n
 unfolding grid_check
 accepted a s n e =
-    let step = passed (is_step s) (require (is_start a) START (require (is_count a s n) COUNT Fine)) (refusal STEP 0) e in
-    let start = passed (is_start a) (require (is_count a s n) COUNT Fine) (refusal START 0) step.1 in
-    let count = passed (is_count a s n) Fine (refusal COUNT 0) start.1 in
-    let range = step_range s step.0 in
-    let from = start_range a start.0 in
-    let ends = both (ltb 0 n && leb 780 (last_of a s n)) (leb (last_of a s n) 830) count.0 in
+    let first = both_fine (require (is_step s) Step) (require (is_start a) Start >>= (λ _. require (is_count a s n) Count)) e in
+    let second = both_fine (require (is_start a) Start) (require (is_count a s n) Count) first.1 in
+    let step = passed (is_step s) Step first.0 in
+    let start = passed (is_start a) Start second.0 in
+    let count = passed (is_count a s n) Count second.1 in
+    let range = step_range s step in
+    let from = start_range a start in
+    let ends = both (ltb 0 n && leb 780 (last_of a s n)) (leb (last_of a s n) 830) count in
     let some_low = both (ltb 0 n) (leb 780 (last_of a s n)) ends.0 in
     let some : 0 < n = ltb-true 0 n some_low.0 in
     let last : a + s * (n - 1) ≤ 830 = leb-true (last_of a s n) 830 ends.1 in
     let more : 1 * (n - 1) ≤ s * (n - 1) = mul-le-mul_right (n - 1) range.0 in
     record {
-      step_allowed = step.0;
+      step_allowed = step;
       step_low = range.0;
       step_high = range.1;
       start_low = from.0;

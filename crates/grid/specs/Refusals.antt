@@ -1,44 +1,20 @@
 -- The numbers of refusals, by the rules' names. 15 is not used: no reading can pass 32 bits.
 use Rattle.std.specs.Prelude.{ℕ}
+use Rattle.grid.specs.declared.refusals.Kind.{Kind}
+use Rattle.grid.specs.declared.refusals.Kind.TheVariants.{Step, Start, Count, Sample, Mesopic, Observer, Illuminant, Reflectance, Dark, Edition, Reserved, Length, Padding, Room}
 
-abbrev pub STEP : ℕ
-STEP = 1
-
-abbrev pub START : ℕ
-START = 2
-
-abbrev pub COUNT : ℕ
-COUNT = 3
-
-abbrev pub SAMPLE : ℕ
-SAMPLE = 4
-
-abbrev pub MESOPIC : ℕ
-MESOPIC = 5
-
-abbrev pub OBSERVER : ℕ
-OBSERVER = 6
-
-abbrev pub ILLUMINANT : ℕ
-ILLUMINANT = 7
-
-abbrev pub REFLECTANCE : ℕ
-REFLECTANCE = 8
-
-abbrev pub DARK : ℕ
-DARK = 9
-
-abbrev pub EDITION : ℕ
-EDITION = 10
-
-abbrev pub RESERVED : ℕ
-RESERVED = 11
-
-abbrev pub LENGTH : ℕ
-LENGTH = 12
-
-abbrev pub PADDING : ℕ
-PADDING = 13
-
-abbrev pub ROOM : ℕ
-ROOM = 14
+abbrev pub number_of : Kind → ℕ
+number_of Step = 1
+number_of Start = 2
+number_of Count = 3
+number_of Sample = 4
+number_of Mesopic = 5
+number_of Observer = 6
+number_of Illuminant = 7
+number_of Reflectance = 8
+number_of Dark = 9
+number_of Edition = 10
+number_of Reserved = 11
+number_of Length = 12
+number_of Padding = 13
+number_of Room = 14

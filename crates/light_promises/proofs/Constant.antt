@@ -5,31 +5,40 @@ use mathlib.Core.List.{List}
 use Prim.Native.Nat.{ℕ, ◌*◌, ◌≤◌, ◌<◌}
 use native.Mathlib.Nat.{mul_assoc, mul_left_comm, mul-le-mul_left}
 use lib.ListN.{replicate, length-replicate, get_or-replicate}
-use Rattle.grid.specs.Refusals.{SAMPLE, REFLECTANCE}
-use Rattle.grid.specs.declared.Check.TheVariants.{Fine}
-use Rattle.grid.specs.Check.{Within, grid_check, light_check}
+use Rattle.grid.specs.declared.refusals.Kind.TheVariants.{Sample, Reflectance}
+use Rattle.grid.specs.Accepted.{OnGrid}
+use Rattle.grid.specs.Check.{Within, Fine, grid_check, spectrum_check, light_check, reflected_check}
 use Rattle.grid.proofs.Limit.{within_row, within_fine}
-use Rattle.grid.proofs.Accepted.{OnGrid}
 use Rattle.mixing.specs.Sum.{total}
 use Rattle.mixing.specs.Nearest.{nearest}
 use Rattle.mixing.proofs.Nearest.{nearest_cancel, nearest_scaled}
 use Rattle.spectrum.specs.Line.{W}
 use Rattle.spectrum.proofs.Constant.{W_constant}
 use Rattle.spectrum.proofs.Light.{W_bound}
-use Rattle.panel.specs.Panel.{setting_check, panel_check}
+use Rattle.panel.proofs.Given.{Setting, SeenPanel}
 
 within_constant : (limit n r : ℕ) → r ≤ limit → Within limit (replicate n r)
 within_constant limit n r h = within_row limit (replicate n r) (λ k l. rw (get_or-replicate n k r 0 (rw (length-replicate n r) at l)) h)
 
 pub light_accepted : (a s n r : ℕ) → r ≤ 1000000 → grid_check a s n ≡ Fine → light_check a s (replicate n r) ≡ Fine
-unfolding light_check
+unfolding spectrum_check
 light_accepted a s n r h fine =
-    rw (length-replicate n r, fine) (within_fine SAMPLE 1000000 0 (replicate n r) (within_constant 1000000 n r h))
+    rw (length-replicate n r, fine) (within_fine Sample 1000000 (replicate n r) (within_constant 1000000 n r h))
 
-pub panel_accepted : (o i a s n r : ℕ) → r ≤ 10000 → setting_check o i a s n ≡ Fine → panel_check o i a s (replicate n r) ≡ Fine
-unfolding panel_check
-panel_accepted o i a s n r h fine =
-    rw (length-replicate n r, fine) (within_fine REFLECTANCE 10000 0 (replicate n r) (within_constant 10000 n r h))
+pub reflected_accepted : (a s n r : ℕ) → r ≤ 10000 → grid_check a s n ≡ Fine → reflected_check a s (replicate n r) ≡ Fine
+unfolding spectrum_check
+reflected_accepted a s n r h fine =
+    rw (length-replicate n r, fine) (within_fine Reflectance 10000 (replicate n r) (within_constant 10000 n r h))
+
+abbrev pub constant_panel : (o i a s n r : ℕ) → r ≤ 10000 → Setting o i a s n → SeenPanel o i a s (replicate n r)
+constant_panel o i a s n r h it =
+    record {
+      observer = it.observer;
+      illuminant = it.illuminant;
+      sees = it.sees;
+      lights = it.lights;
+      fine = reflected_accepted a s n r h it.grid;
+    }
 
 -- f times a sum, over s times d
 module _ (v : ℕ → ℕ) (f d s r : ℕ) where

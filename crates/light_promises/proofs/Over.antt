@@ -5,8 +5,7 @@ use mathlib.Core.List.{List, [], ◌∷◌, map, nil≢cons, head-eq_of_cons-eq,
 use Prim.Native.Nat.{ℕ, zero, suc, ◌+◌, ◌*◌, ◌≤◌, ◌<◌}
 use native.Mathlib.Omega.{arith}
 use lib.ListN.{length}
-use Rattle.grid.specs.declared.Check.{Check}
-use Rattle.grid.specs.declared.Check.TheVariants.{Fine}
+use Rattle.grid.specs.Check.{Check, Fine}
 use Rattle.grid.specs.Said.{Said, value}
 use Rattle.mixing.specs.Mixture.{mixture, Each, Rows, Linear}
 use Rattle.mixing.proofs.Nearest.{nearest_none}

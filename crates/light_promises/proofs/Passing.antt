@@ -2,8 +2,7 @@
 use mathlib.Core.Path.{◌≡◌}
 use mathlib.Core.List.{List}
 use Prim.Native.Nat.{ℕ}
-use Rattle.grid.specs.declared.Check.{Check}
-use Rattle.grid.specs.declared.Check.TheVariants.{Fine}
+use Rattle.grid.specs.Check.{Check, Fine}
 use Rattle.mixing.specs.Mixture.{mixture, Each, Rows}
 
 pub record Passing (check : List ℕ → Check) (n : ℕ) (xss : List (List ℕ)) : Type 0 where

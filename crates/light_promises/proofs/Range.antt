@@ -1,31 +1,34 @@
 -- The greatest readings: no sum passes that of a light at the limit everywhere, whose readings are computed from the tables' sums.
 use mathlib.Core.Path.{◌≡◌, refl}
 use mathlib.Core.Bool.{true}
+use Rattle.std.proofs.Common.{Ok}
 use mathlib.Core.List.{List, [], ◌∷◌}
 use Prim.Native.Nat.{ℕ, zero, suc, ◌+◌, ◌*◌, ◌-◌, ◌≤◌, zero-le}
 use native.Mathlib.Nat.{le_refl, mul_left_comm, mul-le-mul_left}
 use native.Mathlib.Omega.{arith}
 use borrow.Author.Tests.{le-leb}
 use lib.ListN.{get_or, replicate}
-use Rattle.grid.specs.declared.Check.TheVariants.{Fine}
-use Rattle.grid.specs.Check.{is_observer, grid_check, light_check}
+use Rattle.grid.specs.Check.{Fine, grid_check, light_check}
 use Rattle.grid.proofs.Accepted.{accepted}
 use Rattle.grid.proofs.Light.{within, on_grid}
 use Rattle.mixing.specs.Nearest.{nearest}
 use Rattle.mixing.proofs.Nearest.{nearest_cancel, nearest_scaled, nearest_lt}
 use Rattle.tables.specs.declared.Curve.{Curve}
 use Rattle.tables.specs.declared.Curve.TheVariants.{YBar, VPrime}
+use Rattle.tables.specs.declared.settings.Observer.{Observer}
+use Rattle.tables.specs.Settings.{is_observer, observer_of, curves_of}
 use Rattle.tables.specs.Curves.{weight_of}
 use Rattle.tables.specs.Columns.{table_sum}
+use Rattle.tables.proofs.Asked.{the_observer}
 use Rattle.tables.proofs.Columns.{column_total}
 use Rattle.answers.specs.Worked.{xy_from, uv_from, chart_from}
 use Rattle.answers.specs.Said.{said_reading, said_xyz, said_xy, said_uv, said_on_chart, said_chart}
 use Rattle.answers.proofs.Values.{xy_unless_dark, xy_most, uv_most, uv_refused, chart_refused}
-use Rattle.curves.specs.Observer.{curves_of}
 use Rattle.efficacy.specs.Divisors.{divisor_of}
 use Rattle.efficacy.proofs.Worked.{millilux_worked}
 use Rattle.readings.specs.Readings.{weighed, millilux, illuminance_of, mesopic_of, mesopic_weighed, mesopic_millilux, xyz_of, xy_of, uv_of, chart_of, figures_of}
 use Rattle.readings.specs.Figures.{said_figures}
+use Rattle.readings.proofs.Given.{illuminance_given, mesopic_given, xyz_given, xy_given, uv_given, chart_given, figures_given}
 use Rattle.readings.proofs.Setting.{mixed_times, mixed_order}
 use Rattle.readings.proofs.Worked.{mesopic_worked}
 use Rattle.readings.proofs.Small.{weighed_most}
@@ -62,26 +65,33 @@ three p q r (suc zero) = q
 three p q r (suc (suc i)) = one r i
 
 pub illuminance_range : (c : Curve) → Greatest (λ a s xs. said_reading (illuminance_of c a s xs)) (greatest c ∷ [])
-unfolding illuminance_of
 illuminance_range c = record {
-  is_given = λ a s xs fine. rw fine;
-  at_most = λ a s xs fine. rw fine (one (millilux_most c a s xs fine));
-  attained = λ a s n fine. rw (full_accepted a s n fine, millilux_full c a s n fine);
+  is_given = λ a s xs fine. rw (illuminance_given a s xs fine c);
+  at_most = λ a s xs fine. rw (illuminance_given a s xs fine c) (one (millilux_most c a s xs fine));
+  attained = λ a s n fine.
+      rw (illuminance_given a s (replicate n 1000000) (full_accepted a s n fine) c, millilux_full c a s n fine);
 }
 
 pub xyz_range :
-    (o : ℕ) → is_observer o ≡ true →
-    Greatest (λ a s xs. said_xyz (xyz_of o a s xs)) (greatest (curves_of o).x ∷ greatest (curves_of o).y ∷ greatest (curves_of o).z ∷ [])
-unfolding xyz_of
-xyz_range o t =
-    let x = (curves_of o).x in
-    let y = (curves_of o).y in
-    let z = (curves_of o).z in
+    (o : ℕ) (observer : Observer) → observer_of o ≡ Ok observer →
+    Greatest (λ a s xs. said_xyz (xyz_of o a s xs))
+    (greatest (curves_of observer).x ∷ greatest (curves_of observer).y ∷ greatest (curves_of observer).z ∷ [])
+xyz_range o observer sees =
+    let x = (curves_of observer).x in
+    let y = (curves_of observer).y in
+    let z = (curves_of observer).z in
     record {
-      is_given = λ a s xs fine. rw (t, fine);
-      at_most = λ a s xs fine. rw (t, fine) (three (millilux_most x a s xs fine) (millilux_most y a s xs fine) (millilux_most z a s xs fine));
+      is_given = λ a s xs fine. rw (xyz_given a s xs fine o observer sees);
+      at_most = λ a s xs fine.
+          rw (xyz_given a s xs fine o observer sees)
+          (three (millilux_most x a s xs fine) (millilux_most y a s xs fine) (millilux_most z a s xs fine));
       attained = λ a s n fine.
-          rw (t, full_accepted a s n fine, millilux_full x a s n fine, millilux_full y a s n fine, millilux_full z a s n fine);
+          rw (
+            xyz_given a s (replicate n 1000000) (full_accepted a s n fine) o observer sees,
+            millilux_full x a s n fine,
+            millilux_full y a s n fine,
+            millilux_full z a s n fine,
+          );
     }
 
 module _ (k : ℕ) where
@@ -126,13 +136,13 @@ module _ (k : ℕ) where
   greatest_is = mesopic_full 360 1 471 refl
 
   pub mesopic_range : k ≤ 1000 → Greatest (λ a s xs. said_reading (mesopic_of k a s xs)) (mesopic_greatest k ∷ [])
-  unfolding mesopic_of
   mesopic_range few =
       let t = le-leb k 1000 few in
       record {
-        is_given = λ a s xs fine. rw (t, fine);
-        at_most = λ a s xs fine. rw (t, fine, greatest_is) (one (mesopic_most a s xs fine));
-        attained = λ a s n fine. rw (t, full_accepted a s n fine, greatest_is, mesopic_full a s n fine);
+        is_given = λ a s xs fine. rw (mesopic_given a s xs fine k t);
+        at_most = λ a s xs fine. rw (mesopic_given a s xs fine k t, greatest_is) (one (mesopic_most a s xs fine));
+        attained = λ a s n fine.
+            rw (mesopic_given a s (replicate n 1000000) (full_accepted a s n fine) k t, greatest_is, mesopic_full a s n fine);
       }
 
 pub mesopic_0 : mesopic_greatest 0 ≡ 165033523
@@ -159,9 +169,10 @@ coordinates x y z =
 pub xy_range :
     (o a s : ℕ) (xs : List ℕ) → is_observer o ≡ true → light_check a s xs ≡ Fine →
     Coordinates (said_xy (xy_of o a s xs)) (said_uv (uv_of o a s xs)) (said_chart (chart_of o a s xs))
-unfolding xy_of uv_of chart_of
-xy_range o a s xs t fine = rw (t, fine) (coordinates _ _ _)
+xy_range o a s xs t fine =
+    let seen = the_observer o t in
+    rw (xy_given a s xs fine o seen.0 seen.1, uv_given a s xs fine o seen.0 seen.1, chart_given a s xs fine o seen.0 seen.1)
+    (coordinates _ _ _)
 
 pub figures_range : (a s : ℕ) (xs : List ℕ) → light_check a s xs ≡ Fine → (said_figures (figures_of a s xs)).number ≡ 0
-unfolding figures_of
-figures_range a s xs fine = rw fine
+figures_range a s xs fine = rw (figures_given a s xs fine)

@@ -3,9 +3,8 @@ use mathlib.Core.Path.{◌≡◌}
 use mathlib.Core.List.{List, [], ◌∷◌}
 use Prim.Native.Nat.{ℕ, ◌≤◌}
 use native.Mathlib.Omega.{arith}
-use Rattle.grid.specs.Refusals.{SAMPLE}
-use Rattle.grid.specs.declared.Check.TheVariants.{Fine}
-use Rattle.grid.specs.Check.{light_check}
+use Rattle.grid.specs.declared.refusals.Kind.TheVariants.{Sample}
+use Rattle.grid.specs.Check.{Fine, spectrum_check, light_check}
 use Rattle.grid.proofs.Limit.{within_fine}
 use Rattle.grid.proofs.Light.{grid_fine}
 use Rattle.mixing.specs.Mixture.{mixture}
@@ -19,11 +18,11 @@ use Rattle.light_promises.proofs.Instances.{LightSums, LightOver, amounts_of, co
 
 module _ (m : ℕ) (any : 1 ≤ m) where
   pub lamps_accepted : (a s n : ℕ) (xss : List (List ℕ)) → Lamps m a s n xss → light_check a s (mixture n xss) ≡ Fine
-  unfolding light_check
+  unfolding spectrum_check
   lamps_accepted a s n [] lamps = absurd (let number = lamps.number in omega arith)
   lamps_accepted a s n (xs ∷ xss) lamps =
-      let grid = rw lamps.one_grid.0 at (grid_fine a s xs lamps.accepted.0) in
-      rw (length_mixture n (xs ∷ xss) lamps.one_grid, grid) (within_fine SAMPLE 1000000 0 (mixture n (xs ∷ xss)) (λ k. omega (arith, lamps.within k)))
+      let grid = rw lamps.one_grid.0 at (grid_fine Sample 1000000 a s xs lamps.accepted.0) in
+      rw (length_mixture n (xs ∷ xss) lamps.one_grid, grid) (within_fine Sample 1000000 (mixture n (xs ∷ xss)) (λ k. omega (arith, lamps.within k)))
 
   passing : (a s n : ℕ) (xss : List (List ℕ)) → Lamps m a s n xss → Passing (light_check a s) n xss
   passing a s n xss lamps =

@@ -5,8 +5,7 @@ use mathlib.Core.List.{List, [], ◌∷◌, map, map-map}
 use Prim.Native.Nat.{ℕ, ◌≤◌, ◌<◌}
 use native.Mathlib.Omega.{arith}
 use lib.ListN.{length, length-map}
-use Rattle.grid.specs.declared.Check.{Check}
-use Rattle.grid.specs.declared.Check.TheVariants.{Fine}
+use Rattle.grid.specs.Check.{Check, Fine}
 use Rattle.grid.specs.Said.{Said, value, given}
 use Rattle.mixing.specs.Nearest.{nearest}
 use Rattle.mixing.specs.Mixture.{mixture, Each, Below, Linear}

@@ -6,7 +6,8 @@ use native.Mathlib.Nat.{add_comm}
 use native.Mathlib.Omega.{arith}
 use borrow.Author.Tests.{ne_eqb}
 use lib.ListN.{length, get_or}
-use Rattle.grid.specs.Refusals.{DARK}
+use Rattle.grid.specs.declared.refusals.Kind.TheVariants.{Dark}
+use Rattle.grid.specs.Refusals.{number_of}
 use Rattle.mixing.specs.Sum.{sum_of}
 use Rattle.mixing.specs.Mixture.{mix, mixture}
 use Rattle.mixing.proofs.Mixture.{get_d_mix, mix_zeros}
@@ -55,7 +56,7 @@ module _ (answer : Answer) where
     both_lit : BothLit answer
     unfolding lit_of least largest
     both_lit a s xs ys both p q =
-        let colour = rw (ne_eqb (answer a s xs).number DARK p, ne_eqb (answer a s ys).number DARK q) at
+        let colour = rw (ne_eqb (answer a s xs).number (number_of Dark) p, ne_eqb (answer a s ys).number (number_of Dark) q) at
         (coloured a s xs ys both).between in
         let lit = colour (omega arith) in
         (lit.0, λ i. record { low = omega (arith, (lit.1 i).low); high = omega (arith, (lit.1 i).high) })
@@ -63,7 +64,7 @@ module _ (answer : Answer) where
     one_dark : OneDark answer
     unfolding lit_of
     one_dark a s xs ys both p q =
-        let lit = ne_eqb (answer a s ys).number DARK q in (
+        let lit = ne_eqb (answer a s ys).number (number_of Dark) q in (
           (coloured a s xs ys both).one_lit (answer a s ys) (rw (p, lit)),
           (coloured a s ys xs (swapped a s xs ys both)).one_lit (answer a s ys) (rw (p, lit)),
         )

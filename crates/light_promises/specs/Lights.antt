@@ -1,18 +1,20 @@
 -- What is promised of mixed light, of light in order, of darkness, of the refusals of u′, v′ and the chart, and of the mesopic
 -- reading by day and by night, said of these readings.
-use Rattle.std.specs.Prelude.{◌≡◌, true, List, [], ◌∷◌, ◌++◌, ℕ, ◌+◌, ◌*◌, ◌≤◌, min, max, length, replicate}
-use Rattle.grid.specs.Refusals.{DARK}
-use Rattle.grid.specs.declared.Check.TheVariants.{Fine}
-use Rattle.grid.specs.Check.{Within, refusal, is_observer, grid_check, light_check}
+use Rattle.std.specs.Prelude.{◌≡◌, true, Ok, List, [], ◌∷◌, ◌++◌, ℕ, ◌+◌, ◌*◌, ◌≤◌, min, max, length, replicate}
+use Rattle.grid.specs.declared.refusals.Kind.TheVariants.{Dark}
+use Rattle.grid.specs.Refusals.{number_of}
+use Rattle.grid.specs.Check.{Within, Fine, refusal, grid_check, light_check}
 use Rattle.mixing.specs.Mixture.{mix, Below}
 use Rattle.mixing.specs.Promises.{Differ}
 use Rattle.tables.specs.declared.Curve.{Curve}
 use Rattle.tables.specs.declared.Curve.TheVariants.{YBar, YBar10, VPrime, VF, VF10}
+use Rattle.tables.specs.declared.settings.Observer.{Observer}
+use Rattle.tables.specs.declared.settings.Observer.TheVariants.{Two}
+use Rattle.tables.specs.Settings.{is_observer, observer_of, curves_of}
 use Rattle.tables.specs.Curves.{weight_of}
 use Rattle.spectrum.specs.Line.{T}
 use Rattle.grid.specs.Said.{Said, value, given, refused_with, RefusedAs}
 use Rattle.answers.specs.Said.{said_reading, said_xyz, said_xy, said_uv, said_chart}
-use Rattle.curves.specs.Observer.{curves_of}
 use Rattle.readings.specs.Readings.{photopic_of, scotopic_of, photopic10_of, research_of, mesopic_of, xyz_of, xy_of, uv_of, chart_of, figures_of}
 use Rattle.readings.specs.Figures.{said_figures}
 
@@ -46,7 +48,7 @@ InOrder answer =
 
 -- refused as dark
 abbrev pub IsDark : Said → Type 0
-IsDark said = said.number ≡ DARK
+IsDark said = said.number ≡ number_of Dark
 
 -- where neither is dark, neither is the mixture, and each of its coordinates lies between the two
 abbrev pub BothLit : Answer → Type 0
@@ -92,7 +94,7 @@ abbrev pub Unlit : Curve → ℕ → ℕ → List ℕ → Type 0
 Unlit c a s xs = (k : ℕ) → weight_of c k * T a s xs (360 + k) ≡ 0
 
 -- and none where any of the observer's three has
-abbrev pub Colourless : ℕ → ℕ → ℕ → List ℕ → Type 0
+abbrev pub Colourless : Observer → ℕ → ℕ → List ℕ → Type 0
 Colourless o a s xs =
     Unlit (curves_of o).x a s xs × Unlit (curves_of o).y a s xs × Unlit (curves_of o).z a s xs
 
@@ -104,7 +106,7 @@ abbrev pub noughts : Said
 noughts = given (0 ∷ 0 ∷ 0 ∷ []) []
 
 abbrev pub dark : Said
-dark = refused_with (refusal DARK 0)
+dark = refused_with (refusal Dark 0)
 
 pub record Darkness : Type 0 where
   -- a room with no light is accepted on every accepted grid, and has no light where any curve has weight
@@ -124,19 +126,21 @@ pub record Darkness : Type 0 where
       (k a s : ℕ) (xs : List ℕ) → k ≤ 1000 → light_check a s xs ≡ Fine → Unlit YBar a s xs → Unlit VPrime a s xs →
       said_reading (mesopic_of k a s xs) ≡ nought
   pub xyz :
-      (o a s : ℕ) (xs : List ℕ) → is_observer o ≡ true → light_check a s xs ≡ Fine → Colourless o a s xs →
+      (o a s : ℕ) (xs : List ℕ) (observer : Observer) → observer_of o ≡ Ok observer → light_check a s xs ≡ Fine → Colourless observer a s xs →
       said_xyz (xyz_of o a s xs) ≡ noughts
   pub xy :
-      (o a s : ℕ) (xs : List ℕ) → is_observer o ≡ true → light_check a s xs ≡ Fine → Colourless o a s xs → said_xy (xy_of o a s xs) ≡ dark
+      (o a s : ℕ) (xs : List ℕ) (observer : Observer) → observer_of o ≡ Ok observer → light_check a s xs ≡ Fine → Colourless observer a s xs →
+      said_xy (xy_of o a s xs) ≡ dark
   pub uv :
-      (o a s : ℕ) (xs : List ℕ) → is_observer o ≡ true → light_check a s xs ≡ Fine → Colourless o a s xs → said_uv (uv_of o a s xs) ≡ dark
+      (o a s : ℕ) (xs : List ℕ) (observer : Observer) → observer_of o ≡ Ok observer → light_check a s xs ≡ Fine → Colourless observer a s xs →
+      said_uv (uv_of o a s xs) ≡ dark
   pub chart :
-      (o a s : ℕ) (xs : List ℕ) → is_observer o ≡ true → light_check a s xs ≡ Fine → Colourless o a s xs →
+      (o a s : ℕ) (xs : List ℕ) (observer : Observer) → observer_of o ≡ Ok observer → light_check a s xs ≡ Fine → Colourless observer a s xs →
       said_chart (chart_of o a s xs) ≡ dark
   -- the figures in one call: five zeros, and DARK for x and y
   pub figures :
-      (a s : ℕ) (xs : List ℕ) → light_check a s xs ≡ Fine → Colourless 2 a s xs → Unlit VPrime a s xs →
-      said_figures (figures_of a s xs) ≡ given (0 ∷ 0 ∷ 0 ∷ 0 ∷ 0 ∷ DARK ∷ 0 ∷ 0 ∷ []) []
+      (a s : ℕ) (xs : List ℕ) → light_check a s xs ≡ Fine → Colourless Two a s xs → Unlit VPrime a s xs →
+      said_figures (figures_of a s xs) ≡ given (0 ∷ 0 ∷ 0 ∷ 0 ∷ 0 ∷ number_of Dark ∷ 0 ∷ 0 ∷ []) []
 
 -- u′ and v′ and the chart's point are refused exactly as x and y are
 pub record RefusedAlike (xy uv chart : Said) : Type 0 where

@@ -2,11 +2,10 @@
 -- is exactly 100000; a grey panel's Y is 10 times its reflectance; u′, v′ and the chart are refused as x and y are; and the order
 -- of reflectances is kept.
 use Rattle.std.specs.Prelude.{◌≡◌, cond, List, [], ◌∷◌, ℕ, ◌*◌, ◌≤◌, length, get_or, replicate, eqb}
-use Rattle.grid.specs.declared.Check.TheVariants.{Fine}
+use Rattle.grid.specs.Check.{Fine}
 use Rattle.mixing.specs.Mixture.{Below}
 use Rattle.grid.specs.Said.{Said, value, given}
 use Rattle.answers.specs.Said.{said_xyz, said_xy, said_uv, said_chart}
-use Rattle.curves.specs.Observer.{of_observer}
 use Rattle.panel.specs.Panel.{setting_check, panel_check, panel_xyz_of, panel_xy_of, panel_uv_of, panel_chart_of}
 use Rattle.panel.specs.Figures.{panel_figures_of, said_panel_figures}
 use Rattle.light_promises.specs.Lights.{RefusedAlike}
@@ -15,6 +14,10 @@ use Rattle.light_promises.specs.Range.{Coordinates}
 -- X, Y, Z as the rules' number and values
 abbrev pub said_panel_xyz : ℕ → ℕ → ℕ → ℕ → List ℕ → Said
 said_panel_xyz o i a s rs = said_xyz (panel_xyz_of o i a s rs)
+
+-- what observer 10 has in place of what observer 2 has
+abbrev pub of_observer : {A : Type 0} → ℕ → A → A → A
+of_observer o two ten = cond (eqb o 10) ten two
 
 -- X, Y, Z of a white panel, every reflectance 10,000, for observer 2 and then for observer 10, under D65 and then under A
 abbrev pub white_xyz : ℕ → ℕ → List ℕ

@@ -1,9 +1,9 @@
 -- What is promised of the range: an accepted light has its readings, each at most so much, and a light at the limit has that much.
 use Rattle.std.specs.Prelude.{◌≡◌, true, List, [], ◌∷◌, ℕ, ◌*◌, ◌≤◌, ◌<◌, get_or, replicate}
-use Rattle.grid.specs.declared.Check.TheVariants.{Fine}
-use Rattle.grid.specs.Check.{Within, is_observer, grid_check, light_check}
+use Rattle.grid.specs.Check.{Within, Fine, grid_check, light_check}
 use Rattle.grid.specs.Said.{Said, value, given}
 use Rattle.mixing.specs.Sum.{total}
+use Rattle.tables.specs.Settings.{is_observer}
 use Rattle.spectrum.specs.Line.{W}
 use Rattle.answers.specs.Said.{said_reading, said_xyz, said_xy, said_uv, said_chart}
 use Rattle.readings.specs.Readings.{photopic_of, scotopic_of, photopic10_of, research_of, mesopic_millilux, mesopic_of, xyz_of, xy_of, uv_of, chart_of, figures_of}

@@ -1,6 +1,6 @@
 -- What is promised of the numbers of the research figures: they have no colour, and no other number has a research figure.
 use Rattle.std.specs.Prelude.{◌≡◌, List, ℕ}
-use Rattle.grid.specs.Refusals.{OBSERVER}
+use Rattle.grid.specs.declared.refusals.Kind.TheVariants.{Observer}
 use Rattle.grid.specs.Check.{refusal}
 use Rattle.grid.specs.Said.{Said, refused_with}
 use Rattle.answers.specs.Said.{said_reading, said_xyz, said_xy, said_uv, said_chart}
@@ -10,7 +10,7 @@ use Rattle.panel.specs.Figures.{panel_figures_of, said_panel_figures}
 
 -- refused as no observer
 abbrev pub no_observer : Said
-no_observer = refused_with (refusal OBSERVER 0)
+no_observer = refused_with (refusal Observer 0)
 
 -- whatever colour is asked of the number, of a light or of a panel, and whatever is lent
 pub record NoColour (o : ℕ) : Type 0 where

@@ -1,8 +1,8 @@
 -- What is promised of whole strings of lamps: mixed light of any number of lights from one on, of which two are a case.
 use Rattle.std.specs.Prelude.{◌≡◌, cond, List, [], ◌∷◌, map, ℕ, ◌/◌, ◌≤◌, ◌<◌, min, eqb, length}
-use Rattle.grid.specs.Refusals.{DARK}
-use Rattle.grid.specs.declared.Check.TheVariants.{Fine}
-use Rattle.grid.specs.Check.{Within, light_check}
+use Rattle.grid.specs.declared.refusals.Kind.TheVariants.{Dark}
+use Rattle.grid.specs.Refusals.{number_of}
+use Rattle.grid.specs.Check.{Within, Fine, light_check}
 use Rattle.grid.specs.Said.{Said, value}
 use Rattle.mixing.specs.Sum.{sum_of}
 use Rattle.mixing.specs.Mixture.{mixture, Each, Rows}
@@ -29,7 +29,7 @@ HalfTheirNumber lamps mixed = (i : ℕ) → Differ (length lamps / 2) (value mix
 -- those that are not dark
 unfoldable pub lit_of : List Said → List Said
 lit_of [] = []
-lit_of (said ∷ saids) = cond (eqb said.number DARK) (lit_of saids) (said ∷ lit_of saids)
+lit_of (said ∷ saids) = cond (eqb said.number (number_of Dark)) (lit_of saids) (said ∷ lit_of saids)
 
 -- the least entry of a list, 0 where it has none
 unfoldable pub least : List ℕ → ℕ

@@ -2,106 +2,151 @@
 ghost use Rattle.std.specs.Prelude.{◌≡◌, ◌*◌, ◌%◌, ◌<◌, ◌≤◌, length};
 ghost use Rattle.many.specs.Generator.{step_from, start_from, observer_from, illuminant_from};
 
-pub fn draw(s: u64) -> u64
-    requires { s < 2147483647 }
-    ensures { (result ≡ s * 48271 % 2147483647) × (result < 2147483647) }
-{
-    s * 48271 % 2147483647
+/// Draws, each from the one before.
+#[derive(Clone, Copy)]
+pub struct Draws {
+    last: u64,
+    ghost in_range: { last < 2147483647 },
 }
 
-pub fn step_from(d: u64) -> u32
+impl Draws {
+    pub fn from(seed: u64) -> Draws
+        requires { seed < 2147483647 }
+        ensures { result.last ≡ seed }
+    {
+        Draws { last: seed }
+    }
+
+    pub fn draw(&mut self) -> u64
+        ensures draw { result ≡ self.old.last * 48271 % 2147483647 }
+        ensures last { self.new.last ≡ result }
+    {
+        self.last = self.last * 48271 % 2147483647;
+        self.last
+    }
+}
+
+/// What is asked, and of which samples and reflectances.
+#[derive(Drop)]
+pub struct Input {
+    pub k: u32,
+    pub observer: u32,
+    pub illuminant: u32,
+    pub start: u32,
+    pub step: u32,
+    pub count: usize,
+    samples: [u32; 532],
+    reflectances: [u16; 532],
+    ghost in_rows: { count ≤ 532 },
+}
+
+impl Input {
+    /// Made of the draws.
+    pub fn from(draws: &mut Draws) -> Input {
+        for _ in 0..3 {
+            draws.draw();
+        }
+        let step = step_from(draws.draw());
+        let start = start_from(draws.draw());
+        let count = count_from(draws.draw(), start, step);
+        let mode = draws.draw() % 8;
+        let mut samples = [0; 532];
+        fill(mode, draws, &mut samples[..count]);
+        put_one(mode, draws, &mut samples[..count]);
+        let k = (draws.draw() % 1100) as u32;
+        let observer = observer_from(draws.draw());
+        let illuminant = illuminant_from(draws.draw());
+        let mut reflectances = [0; 532];
+        for (reflectance, sample) in reflectances.iter_mut().zip(&samples) {
+            *reflectance = reflectance_from(mode, *sample);
+        }
+        Input {
+            k,
+            observer,
+            illuminant,
+            start,
+            step,
+            count,
+            samples,
+            reflectances,
+        }
+    }
+
+    pub fn samples(&self) -> &[u32] {
+        &self.samples[..self.count]
+    }
+
+    pub fn reflectances(&self) -> &[u16] {
+        &self.reflectances[..self.count]
+    }
+}
+
+static STEPS: [u32; 16] = [1, 2, 5, 10, 1, 2, 5, 10, 1, 2, 5, 10, 1, 2, 3, 0];
+
+static STARTS: [u32; 4] = [299, 381, 0, 4294967295];
+
+static OBSERVERS: [u32; 16] = [2, 10, 2, 10, 2, 10, 2, 10, 32, 40, 32, 40, 32, 40, 3, 0];
+
+static ILLUMINANTS: [u32; 8] = [1, 2, 1, 2, 1, 2, 0, 3];
+
+fn step_from(d: u64) -> u32
     ensures { result ≡ step_from d }
 {
-    let steps: [u32; 16] = [1, 2, 5, 10, 1, 2, 5, 10, 1, 2, 5, 10, 1, 2, 3, 0];
-    steps[(d % 16) as usize]
+    STEPS[(d % 16) as usize]
 }
 
-pub fn start_from(d: u64) -> u32
+fn start_from(d: u64) -> u32
     ensures { result ≡ start_from d }
 {
     if d % 13 == 0 {
-        let starts: [u32; 4] = [299, 381, 0, 4294967295];
-        starts[(d / 13 % 4) as usize]
+        STARTS[(d / 13 % 4) as usize]
     } else {
         300 + (d % 81) as u32
     }
 }
 
-pub fn count_from(d: u64, start: u32, step: u32) -> usize
+fn observer_from(d: u64) -> u32
+    ensures { result ≡ observer_from d }
+{
+    OBSERVERS[(d % 16) as usize]
+}
+
+fn illuminant_from(d: u64) -> u32
+    ensures { result ≡ illuminant_from d }
+{
+    ILLUMINANTS[(d % 8) as usize]
+}
+
+// One count in eleven is odd for a grid; the others end from 780 to 830 nm where they can.
+fn count_from(d: u64, start: u32, step: u32) -> usize
     ensures { result ≤ 532 }
 {
     if d % 11 == 0 {
-        return odd_count(d / 11 % 4);
+        return match d / 11 % 4 {
+            0 => 0,
+            1 => 1,
+            2 => 40,
+            _ => 532,
+        };
     }
-    fitting_count(780 + d % 51, start as u64, step as u64)
-}
-
-fn odd_count(i: u64) -> usize
-    ensures { result ≤ 532 }
-{
-    match i {
-        0 => 0,
-        1 => 1,
-        2 => 40,
-        _ => 532,
-    }
-}
-
-fn fitting_count(last: u64, start: u64, step: u64) -> usize
-    requires { last < 1000 }
-    ensures { result ≤ 532 }
-{
-    if step == 0 {
-        return 401;
-    }
-    if last < start {
+    let last = (780 + d % 51) as u32;
+    if step == 0 || last < start {
         return 401;
     }
     let steps = (last - start) / step;
-    if steps < 532 { steps as usize + 1 } else { 532 }
+    steps.min(531) as usize + 1
 }
 
-pub fn observer_from(d: u64) -> u32
-    ensures { result ≡ observer_from d }
+// Fills the samples by the mode; only modes 3 to 6 draw for each.
+fn fill(mode: u64, draws: &mut Draws, samples: &mut [u32])
+    requires { length samples.old ≤ 532 }
 {
-    let observers: [u32; 16] = [2, 10, 2, 10, 2, 10, 2, 10, 32, 40, 32, 40, 32, 40, 3, 0];
-    observers[(d % 16) as usize]
-}
-
-pub fn illuminant_from(d: u64) -> u32
-    ensures { result ≡ illuminant_from d }
-{
-    let illuminants: [u32; 8] = [1, 2, 1, 2, 1, 2, 0, 3];
-    illuminants[(d % 8) as usize]
-}
-
-pub fn setting_from(d: u64) -> u32
-    ensures { result ≡ d % 1100 }
-{
-    (d % 1100) as u32
-}
-
-// Fills the first samples by the mode, and gives the state after the draws.
-pub fn fill(mode: u64, state: u64, count: usize, samples: &mut [u32; 532]) -> u64
-    requires { (state < 2147483647) × (count ≤ 532) × (length samples.old ≡ 532) }
-    ensures { (result < 2147483647) × (length samples.new ≡ 532) }
-{
-    let mut s = state;
-    for k in 0..count {
-        s = next(mode, s);
-        samples[k] = sample_from(mode, s, k as u64);
-    }
-    s
-}
-
-// Only modes 3 to 6 draw for each sample.
-fn next(mode: u64, s: u64) -> u64
-    requires { s < 2147483647 }
-    ensures { result < 2147483647 }
-{
-    match mode {
-        3..=6 => draw(s),
-        _ => s,
+    let mut d = draws.last;
+    for (k, sample) in samples.iter_mut().enumerate() {
+        if let 3..=6 = mode {
+            d = draws.draw();
+        }
+        *sample = sample_from(mode, d, k as u64);
     }
 }
 
@@ -118,52 +163,22 @@ fn sample_from(mode: u64, d: u64, k: u64) -> u32
     }
 }
 
-// Puts the one sample of modes 1 and 5, and gives the state after the draws.
-pub fn put_one(mode: u64, state: u64, count: usize, samples: &mut [u32; 532]) -> u64
-    requires { (state < 2147483647) × (count ≤ 532) × (length samples.old ≡ 532) }
-    ensures { (result < 2147483647) × (length samples.new ≡ 532) }
-{
-    if count == 0 {
-        return state;
+// Puts the one sample of modes 1 and 5.
+fn put_one(mode: u64, draws: &mut Draws, samples: &mut [u32]) {
+    if samples.is_empty() {
+        return;
     }
-    match mode {
-        1 | 5 => {
-            let p = draw(state);
-            let v = draw(p);
-            let place = place_in(p as usize, count);
-            samples[place] = one_from(mode, v);
-            v
-        }
-        _ => state,
+    if let 1 | 5 = mode {
+        let place = draws.draw() as usize % samples.len();
+        let d = draws.draw();
+        samples[place] = match mode {
+            1 => (d % 1000001) as u32,
+            _ => 1000001 + (d % 5) as u32,
+        };
     }
 }
 
-// A place below the count.
-pub fn place_in(d: usize, count: usize) -> usize
-    requires { 0 < count }
-    ensures { result < count }
-{
-    d % count
-}
-
-fn one_from(mode: u64, d: u64) -> u32 {
-    if mode == 1 {
-        (d % 1000001) as u32
-    } else {
-        1000001 + (d % 5) as u32
-    }
-}
-
-pub fn reflect(mode: u64, samples: &[u32; 532], reflectances: &mut [u16; 532])
-    requires { length reflectances.old ≡ 532 }
-    ensures { length reflectances.new ≡ 532 }
-{
-    for k in 0..532 {
-        reflectances[k] = reflectance(mode, samples[k]);
-    }
-}
-
-fn reflectance(mode: u64, sample: u32) -> u16 {
+fn reflectance_from(mode: u64, sample: u32) -> u16 {
     if mode == 5 {
         (sample % 10007) as u16
     } else {

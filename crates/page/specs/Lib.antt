@@ -1,7 +1,6 @@
 -- Definitions of the crate `page`.
 pub mod Recorded
-pub mod Text
 pub mod Report
 pub mod Answer
 pub mod Said
-pub mod Put
+pub mod Shown

@@ -1,66 +1,55 @@
 -- The report's text, line by line as the rules print it.
-use Rattle.std.specs.Prelude.{cond, List, [], ◌∷◌, ◌++◌, ℕ, zero, suc, ◌+◌, ◌/◌, ◌%◌, ltb, eqb}
-use Prim.Native.Char.{code}
-use Rattle.grid.specs.Refusals.{SAMPLE}
-use Rattle.grid.specs.declared.Refusal.{Refusal}
-use Rattle.answers.specs.declared.XyAnswer.{XyAnswer}
+use Rattle.std.specs.Prelude.{Result, Ok, Err, List, [], ◌++◌, ℕ, ◌+◌, ◌/◌, ◌%◌, drop, codes, decimal}
+use Rattle.grid.specs.declared.refusals.Kind.{Kind}
+use Rattle.grid.specs.declared.refusals.Kind.TheVariants.{Sample}
+use Rattle.grid.specs.declared.refusals.Refusal.{Refusal}
+use Rattle.grid.specs.Refusals.{number_of}
+use Rattle.answers.specs.declared.Xy.{Xy}
 use Rattle.readings.specs.declared.figures.ReportFigures.{ReportFigures}
-use Rattle.readings.specs.declared.figures.FiguresAnswer.{FiguresAnswer}
 use Rattle.page.specs.Recorded.{recorded_figures}
-use Rattle.page.specs.Text.{ascii}
 
 abbrev pub newline : List ℕ
-newline = ascii "\n"
+newline = codes "\n"
 
--- the last digit of a number
-abbrev pub digit : ℕ → ℕ
-digit n = code "0" + n % 10
-
--- a number's digits, at most so many: the last one, and before it those of the rest, if there is a rest
-unfoldable pub digits : ℕ → ℕ → List ℕ
-digits zero n = []
-digits (suc most) n = cond (ltb n 10) [] (digits most (n / 10)) ++ (digit n ∷ [])
-
--- a number in decimal: 20 digits hold any that 64 bits do
-abbrev pub decimal : ℕ → List ℕ
-decimal n = digits 20 n
-
--- so many hundred-thousandths: the whole part, a point, five digits
-unfoldable pub coordinate : ℕ → List ℕ
-coordinate n =
-    decimal (n / 100000)
-    ++ (code "." ∷ digit (n / 10000) ∷ digit (n / 1000) ∷ digit (n / 100) ∷ digit (n / 10) ∷ digit n ∷ [])
+-- so many hundred-thousandths: the whole part, a point, and five digits, which are those behind the 1 of a number of six
+abbrev pub coordinate : ℕ → List ℕ
+coordinate n = decimal (n / 100000) ++ codes "." ++ drop 1 (decimal (100000 + n % 100000))
 
 -- a line: a word, what it shows, and the newline
-unfoldable pub line : List ℕ → List ℕ → List ℕ
+abbrev pub line : List ℕ → List ℕ → List ℕ
 line word shown = word ++ shown ++ newline
 
 -- x and y, or a dash for each where they are dark
-unfoldable pub colour_lines : XyAnswer → List ℕ
-colour_lines (XyAnswer.Value v) = line (ascii "x ") (coordinate v.x) ++ line (ascii "y ") (coordinate v.y)
-colour_lines (XyAnswer.Refused dark) = line (ascii "x ") (ascii "-") ++ line (ascii "y ") (ascii "-")
+abbrev pub colour_lines : Result Xy Refusal → List ℕ
+colour_lines (Ok v) = line (codes "x ") (coordinate v.x) ++ line (codes "y ") (coordinate v.y)
+colour_lines (Err dark) = line (codes "x ") (codes "-") ++ line (codes "y ") (codes "-")
 
 -- the five lines of the readings
 abbrev pub reading_lines : ReportFigures → List ℕ
 reading_lines f =
-    line (ascii "photopic ") (decimal f.photopic)
-    ++ line (ascii "scotopic ") (decimal f.scotopic)
-    ++ line (ascii "X ") (decimal f.xyz.x)
-    ++ line (ascii "Y ") (decimal f.xyz.y)
-    ++ line (ascii "Z ") (decimal f.xyz.z)
+    line (codes "photopic ") (decimal f.photopic)
+    ++ line (codes "scotopic ") (decimal f.scotopic)
+    ++ line (codes "X ") (decimal f.xyz.x)
+    ++ line (codes "Y ") (decimal f.xyz.y)
+    ++ line (codes "Z ") (decimal f.xyz.z)
 
 -- the seven lines of an accepted record
-unfoldable pub figure_lines : ReportFigures → List ℕ
+abbrev pub figure_lines : ReportFigures → List ℕ
 figure_lines f = reading_lines f ++ colour_lines f.xy
 
+-- what stands behind a refusal's number: its place, for SAMPLE only
+abbrev pub placed : Kind → ℕ → List ℕ
+placed Sample place = codes " at " ++ decimal place
+placed kind place = []
+
 -- a refusal's number, with its place for SAMPLE only
-unfoldable pub numbered : Refusal → List ℕ
-numbered r = decimal r.number ++ cond (eqb r.number SAMPLE) (ascii " at " ++ decimal r.place) []
+abbrev pub numbered : Refusal → List ℕ
+numbered r = decimal (number_of r.kind) ++ placed r.kind r.place
 
 -- the seven lines, or the one line of a refusal
-unfoldable pub text_of : FiguresAnswer → List ℕ
-text_of (FiguresAnswer.Value f) = figure_lines f
-text_of (FiguresAnswer.Refused r) = line (ascii "refused ") (numbered r)
+abbrev pub text_of : Result ReportFigures Refusal → List ℕ
+text_of (Ok f) = figure_lines f
+text_of (Err r) = line (codes "refused ") (numbered r)
 
 -- the whole page: of a refused record too
 abbrev pub report_of : List ℕ → List ℕ

@@ -1,8 +1,8 @@
 -- The rules' number, place and values of writing a report.
-use Rattle.grid.specs.Said.{Said, refused_with}
+use Rattle.std.specs.Prelude.{Result, ℕ}
+use Rattle.grid.specs.declared.refusals.Refusal.{Refusal}
+use Rattle.grid.specs.Said.{Said, said}
 use Rattle.record.specs.Said.{wrote}
-use Rattle.page.specs.declared.ReportWritten.{ReportWritten}
 
-abbrev pub said_reported : ReportWritten → Said
-said_reported (ReportWritten.Written n) = wrote n
-said_reported (ReportWritten.Refused r) = refused_with r
+abbrev pub said_reported : Result ℕ Refusal → Said
+said_reported = said wrote

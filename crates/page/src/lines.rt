@@ -1,91 +1,111 @@
-// The report's lines.
-ghost use Rattle.std.specs.Prelude.{◌+◌, ◌≤◌, length};
-ghost use Rattle.page.specs.Report.{line, colour_lines, figure_lines, numbered, text_of};
-ghost use Rattle.page.specs.Put.{Put, shown_text};
+// The report's lines, on a page of its own.
+ghost use Rattle.std.specs.Prelude.{◌≡◌, ◌+◌, ◌++◌, ◌≤◌, length, decimal};
+ghost use Rattle.arrayvec.specs.ArrayString.{array_string_len};
+ghost use Rattle.page.specs.Report.{coordinate, line, colour_lines, figure_lines, numbered, text_of};
+ghost use Rattle.page.specs.Shown.{shown_text};
 
-use crate::put::{put, put_coordinate, put_number};
-use answers::XyAnswer;
-use grid::Refusal;
-use grid::refusals::SAMPLE;
-use readings::figures::{FiguresAnswer, ReportFigures};
+use answers::Xy;
+use arrayvec::ArrayString;
+use grid::{Kind, Refusal};
+use itoa::Buffer;
+use readings::figures::ReportFigures;
+
+/// A report in the making. It has more room than any takes, so that no line need know how few digits its number has.
+pub type Page = ArrayString<256>;
 
 // What a line shows behind its word.
-#[derive(Clone, Copy)]
-pub enum Shown {
+#[derive(Clone, Copy, Debug)]
+enum Shown {
     Number(u32),
     Coordinate(u32),
     Refused(Refusal),
 }
 
-// The seven lines, or the one line of a refusal.
-pub fn put_text(text: &mut [u8], answer: FiguresAnswer) -> usize
-    requires { length (text_of answer) ≤ length text.old }
-    ensures { Put text.old 0 (text_of answer) result text.new }
+/// The seven lines, or the one line of a refusal.
+pub fn page_of(answer: Result<ReportFigures, Refusal>) -> Page
+    ensures { result.bytes ≡ text_of answer }
 {
+    let mut page = Page::new();
     match answer {
-        FiguresAnswer::Value(figures) => put_figures(text, figures),
-        FiguresAnswer::Refused(refusal) => put_line(text, 0, b"refused ", Shown::Refused(refusal)),
+        Ok(figures) => push_figures(&mut page, figures),
+        Err(refusal) => push_line(&mut page, "refused ", Shown::Refused(refusal)),
     }
+    page
 }
 
-fn put_figures(text: &mut [u8], figures: ReportFigures) -> usize
-    requires { length (figure_lines figures) ≤ length text.old }
-    ensures { Put text.old 0 (figure_lines figures) result text.new }
+fn push_figures(page: &mut Page, figures: ReportFigures)
+    requires { array_string_len page.old ≡ 0 }
+    ensures { page.new.bytes ≡ page.old.bytes ++ figure_lines figures }
 {
-    let xyz = figures.xyz;
-    let xy = figures.xy;
-    let night = put_line(text, 0, b"photopic ", Shown::Number(figures.photopic));
-    let x = put_line(text, night, b"scotopic ", Shown::Number(figures.scotopic));
-    let y = put_line(text, x, b"X ", Shown::Number(xyz.x));
-    let z = put_line(text, y, b"Y ", Shown::Number(xyz.y));
-    let colour = put_line(text, z, b"Z ", Shown::Number(xyz.z));
-    put_colour(text, colour, xy)
+    push_line(page, "photopic ", Shown::Number(figures.photopic));
+    push_line(page, "scotopic ", Shown::Number(figures.scotopic));
+    push_line(page, "X ", Shown::Number(figures.xyz.x));
+    push_line(page, "Y ", Shown::Number(figures.xyz.y));
+    push_line(page, "Z ", Shown::Number(figures.xyz.z));
+    push_colour(page, figures.xy);
 }
 
 // x and y, or a dash for each where they are dark.
-fn put_colour(text: &mut [u8], at: usize, xy: XyAnswer) -> usize
-    requires { at + length (colour_lines xy) ≤ length text.old }
-    ensures { Put text.old at (colour_lines xy) result text.new }
+fn push_colour(page: &mut Page, xy: Result<Xy, Refusal>)
+    requires { array_string_len page.old + 54 ≤ 256 }
+    ensures { page.new.bytes ≡ page.old.bytes ++ colour_lines xy }
 {
     match xy {
-        XyAnswer::Value(v) => {
-            let y = put_line(text, at, b"x ", Shown::Coordinate(v.x));
-            put_line(text, y, b"y ", Shown::Coordinate(v.y))
+        Ok(xy) => {
+            push_line(page, "x ", Shown::Coordinate(xy.x));
+            push_line(page, "y ", Shown::Coordinate(xy.y));
         }
-        XyAnswer::Refused(_) => put(text, at, b"x -\ny -\n"),
+        Err(_) => page.push_str("x -\ny -\n"),
     }
 }
 
-// A word, what it shows, and the newline.
-fn put_line(text: &mut [u8], at: usize, word: &[u8], shown: Shown) -> usize
-    requires { at + length (line word.now (shown_text shown)) ≤ length text.old }
-    ensures { Put text.old at (line word.now (shown_text shown)) result text.new }
+// A word, what it shows, and the newline: at most 25 bytes behind the word.
+fn push_line(page: &mut Page, word: &str, shown: Shown)
+    requires { array_string_len page.old + length word.now + 25 ≤ 256 }
+    ensures text { page.new.bytes ≡ page.old.bytes ++ line word.now (shown_text shown) }
+    ensures short { array_string_len page.new ≤ array_string_len page.old + length word.now + 25 }
 {
-    let behind = put(text, at, word);
-    let end = put_shown(text, behind, shown);
-    put(text, end, b"\n")
-}
-
-fn put_shown(text: &mut [u8], at: usize, shown: Shown) -> usize
-    requires { at + length (shown_text shown) ≤ length text.old }
-    ensures { Put text.old at (shown_text shown) result text.new }
-{
+    page.push_str(word);
     match shown {
-        Shown::Number(n) => put_number(text, at, n as usize),
-        Shown::Coordinate(n) => put_coordinate(text, at, n as usize),
-        Shown::Refused(refusal) => put_refusal(text, at, refusal),
+        Shown::Number(n) => push_number(page, n),
+        Shown::Coordinate(n) => push_coordinate(page, n),
+        Shown::Refused(refusal) => push_refusal(page, refusal),
     }
+    page.push_str("\n");
+}
+
+fn push_number(page: &mut Page, n: u32)
+    requires { array_string_len page.old + 10 ≤ 256 }
+    ensures text { page.new.bytes ≡ page.old.bytes ++ decimal n }
+    ensures short { array_string_len page.new ≤ array_string_len page.old + 10 }
+{
+    page.push_str(Buffer::new().format(n));
+}
+
+// So many hundred-thousandths.
+#[tactic(auto, using(std::proofs::lemmas::Fmt::decimal_nonempty))]
+fn push_coordinate(page: &mut Page, n: u32)
+    requires { array_string_len page.old + 24 ≤ 256 }
+    ensures text { page.new.bytes ≡ page.old.bytes ++ coordinate n }
+    ensures short { array_string_len page.new ≤ array_string_len page.old + 24 }
+{
+    push_number(page, n / 100_000);
+    page.push_str(".");
+    // The 1 in front keeps the zeros behind the point.
+    let mut buffer = Buffer::new();
+    let places = buffer.format(100_000 + n % 100_000);
+    page.push_str(&places[1..]);
 }
 
 // A refusal's number, and its place for SAMPLE only.
-fn put_refusal(text: &mut [u8], at: usize, refusal: Refusal) -> usize
-    requires { at + length (numbered refusal) ≤ length text.old }
-    ensures { Put text.old at (numbered refusal) result text.new }
+fn push_refusal(page: &mut Page, refusal: Refusal)
+    requires { array_string_len page.old + 24 ≤ 256 }
+    ensures text { page.new.bytes ≡ page.old.bytes ++ numbered refusal }
+    ensures short { array_string_len page.new ≤ array_string_len page.old + 24 }
 {
-    let end = put_number(text, at, refusal.number as usize);
-    if refusal.number == SAMPLE {
-        let place = put(text, end, b" at ");
-        return put_number(text, place, refusal.place as usize);
+    push_number(page, refusal.number());
+    if refusal.kind == Kind::Sample {
+        page.push_str(" at ");
+        push_number(page, refusal.place);
     }
-    end
 }

@@ -1,5 +1,4 @@
 -- Laws of panels.
-pub mod Accepted
 pub mod Sized
-pub mod Weighed
-pub mod Worked
+pub mod Rows
+pub mod Given

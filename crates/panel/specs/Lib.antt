@@ -1,5 +1,3 @@
 -- Definitions of the crate `panel`.
 pub mod Panel
 pub mod Figures
-pub mod Sums
-pub mod Wide

@@ -1,65 +1,60 @@
-// The three sums of a panel, or its first refusal.
+// The three sums of a panel, or its first refusal. It differs from a light in what is asked, refused and summed by, not in a type
+// alone, so the two are written out.
 ghost use Rattle.std.specs.Prelude.{◌≡◌};
-ghost use Rattle.panel.specs.Panel.{is_illuminant, setting_check};
-ghost use Rattle.panel.specs.Sums.{PanelSummed};
+ghost use Rattle.panel.specs.Panel.{seen_of, panel_sums, sums_of};
 
-use crate::part::part_sums;
-use crate::reflectances::check_reflectances;
-use answers::from_sums::SumsAnswer;
-use grid::refusals::{ILLUMINANT, OBSERVER};
-use grid::{Check, check_grid, is_observer, refused};
-use spectrum::line::begin_at_360;
+use crate::Panel;
+use answers::sums::Sums;
+use curves::lit::{light, weigh_lit};
+use grid::Refusal;
+use tables::Illuminant;
+use tables::settings::Observer;
 
-pub fn panel_sums(
+/// The sums by an observer's three curves, under an illuminant.
+#[tactic(auto, using(crate::proofs::Rows::row_small))]
+pub fn panel_sums(observer: Observer, illuminant: Illuminant, panel: &Panel) -> Sums
+    ensures { result ≡ panel_sums observer illuminant panel.now.start panel.now.step panel.now.samples }
+{
+    let mut high = [0u64; 471];
+    let mut low = [0u64; 471];
+    panel.lay(&mut low);
+    light(illuminant, &mut high, &mut low);
+    let curves = observer.curves();
+    Sums::new(
+        weigh_lit(curves.x, &high, &low),
+        weigh_lit(curves.y, &high, &low),
+        weigh_lit(curves.z, &high, &low),
+    )
+}
+
+/// An observer, an illuminant and a panel: OBSERVER, ILLUMINANT, STEP, START, COUNT, REFLECTANCE.
+#[tactic(auto, unfolding(crate::specs::Panel::seen_of))]
+pub fn seen(
     observer: u32,
     illuminant: u32,
     start: u32,
     step: u32,
     reflectances: &[u16],
-) -> SumsAnswer
-    ensures { PanelSummed observer illuminant start step reflectances.now result }
+) -> Result<(Observer, Illuminant, Panel), Refusal>
+    ensures { result ≡ seen_of observer illuminant start step reflectances.now }
 {
-    let setting = check_setting(observer, illuminant, start, step, reflectances.len());
-    match setting {
-        Check::Fine => {
-            let limit = check_reflectances(reflectances);
-            match limit {
-                Check::Fine => {
-                    let begin = begin_at_360(start, step);
-                    let j = begin.place;
-                    SumsAnswer::Given(part_sums(
-                        observer,
-                        illuminant,
-                        begin.wavelength,
-                        step,
-                        &reflectances[j..],
-                    ))
-                }
-                Check::Refused(refusal) => SumsAnswer::Refused(refusal),
-            }
-        }
-        Check::Refused(refusal) => SumsAnswer::Refused(refusal),
-    }
+    let observer = Observer::try_from(observer)?;
+    let illuminant = Illuminant::try_from(illuminant)?;
+    let panel = Panel::new(start, step, reflectances)?;
+    Ok((observer, illuminant, panel))
 }
 
-// OBSERVER, ILLUMINANT, and then STEP, START and COUNT.
-fn check_setting(observer: u32, illuminant: u32, start: u32, step: u32, count: usize) -> Check
-    ensures { result ≡ setting_check observer illuminant start step count }
+/// The three sums that are seen.
+#[tactic(auto, unfolding(crate::specs::Panel::sums_of))]
+pub fn sums(
+    observer: u32,
+    illuminant: u32,
+    start: u32,
+    step: u32,
+    reflectances: &[u16],
+) -> Result<Sums, Refusal>
+    ensures { result ≡ sums_of observer illuminant start step reflectances.now }
 {
-    if !is_observer(observer) {
-        return refused(OBSERVER);
-    }
-    if !is_illuminant(illuminant) {
-        return refused(ILLUMINANT);
-    }
-    check_grid(start, step, count)
-}
-
-fn is_illuminant(illuminant: u32) -> bool
-    ensures { result ≡ is_illuminant illuminant }
-{
-    if illuminant == 1 {
-        return true;
-    }
-    illuminant == 2
+    let (observer, illuminant, panel) = seen(observer, illuminant, start, step, reflectances)?;
+    Ok(panel_sums(observer, illuminant, &panel))
 }

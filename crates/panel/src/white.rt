@@ -1,31 +1,26 @@
 // The white sum of each illuminant and observer, worked out beforehand: each is proved to be its sum over 360 to 830 nm.
-ghost use Rattle.std.specs.Prelude.{◌≡◌, ◌*◌, ◌≤◌};
-ghost use Rattle.exact.specs.Value.{short};
+ghost use Rattle.std.specs.Prelude.{◌≡◌, ◌*◌};
 ghost use Rattle.panel.specs.Panel.{white_sum};
 
-use exact::digits::{Short, joined, short_times_plus};
+use tables::Illuminant;
+use tables::settings::Observer;
 
-// s times the white sum.
-pub fn divisor(observer: u32, illuminant: u32, step: u32) -> Short
-    requires { step ≤ 10 }
-    ensures { short result ≡ step * white_sum observer illuminant }
+/// s times the white sum.
+#[tactic(auto, using(crate::proofs::Sized::white_small))]
+pub fn divisor(observer: Observer, illuminant: Illuminant, step: u32) -> u128
+    ensures { result ≡ step * white_sum observer illuminant }
 {
-    short_times_plus(white(observer, illuminant), step, joined(0, 0))
+    step as u128 * white(observer, illuminant)
 }
 
 #[tactic(auto, using(tables::proofs::Lit::lit_sum_lem), unfolding(crate::specs::Panel::white_sum))]
-fn white(observer: u32, illuminant: u32) -> Short
-    ensures { short result ≡ white_sum observer illuminant }
+fn white(observer: Observer, illuminant: Illuminant) -> u128
+    ensures { result ≡ white_sum observer illuminant }
 {
-    if observer == 10 {
-        if illuminant == 2 {
-            joined(2705573255114, 3799362256)
-        } else {
-            joined(2649440463458, 2742838892)
-        }
-    } else if illuminant == 2 {
-        joined(2460340426067, 3651317408)
-    } else {
-        joined(2512140128601, 3357716434)
+    match (observer, illuminant) {
+        (Observer::Two, Illuminant::A) => 10789559695313886949330,
+        (Observer::Two, Illuminant::D65) => 10567081666988122222240,
+        (Observer::Ten, Illuminant::A) => 11379260143253935908460,
+        (Observer::Ten, Illuminant::D65) => 11620348647650694114000,
     }
 }

@@ -13,7 +13,7 @@ use Rattle.readings.proofs.colour.xy.Reads as xy
 use Rattle.readings.proofs.colour.uv.Reads as uv
 use Rattle.readings.proofs.colour.chart.Reads as chart
 use Rattle.readings.proofs.figures.figures.Reads as figures
-use Rattle.panel.proofs.figures.panel_figures.Reads as panel_figures
+use Rattle.panel.proofs.panel_figures.Reads as panel_figures
 use Rattle.panel.proofs.panel_xyz.Reads as panel_xyz
 use Rattle.panel.proofs.panel_xy.Reads as panel_xy
 use Rattle.panel.proofs.panel_uv.Reads as panel_uv
@@ -22,6 +22,16 @@ use Rattle.record.proofs.read_record.Reads as read_record
 use Rattle.record.proofs.unpack_record.Reads as unpack_record
 use Rattle.record.proofs.write_record.Reads as write_record
 use Rattle.page.proofs.write_report.Reads as write_report
+use Rattle.quailribbon.proofs.flatten.QrReadingFromResultU32Refusal.from.Reads as flat_reading
+use Rattle.quailribbon.proofs.flatten.QrXyzFromResultXyzRefusal.from.Reads as flat_xyz
+use Rattle.quailribbon.proofs.flatten.QrXyFromResultXyRefusal.from.Reads as flat_xy
+use Rattle.quailribbon.proofs.flatten.QrUvFromResultUvRefusal.from.Reads as flat_uv
+use Rattle.quailribbon.proofs.flatten.QrChartFromChartPoint.from.Reads as flat_point
+use Rattle.quailribbon.proofs.flatten.QrChartFromResultOnChartRefusal.from.Reads as flat_chart
+use Rattle.quailribbon.proofs.flatten.QrFiguresFromResultReportFiguresRefusal.from.Reads as flat_figures
+use Rattle.quailribbon.proofs.flatten.QrPanelFiguresFromResultPanelFiguresRefusal.from.Reads as flat_panel_figures
+use Rattle.quailribbon.proofs.flatten.QrRecordFromResultHeaderRefusal.from.Reads as flat_record
+use Rattle.quailribbon.proofs.flatten.QrWrittenFromResultU32Refusal.from.Reads as flat_written
 use Rattle.quailribbon.proofs.lights.qr_photopic.Reads as qr_photopic
 use Rattle.quailribbon.proofs.lights.qr_scotopic.Reads as qr_scotopic
 use Rattle.quailribbon.proofs.lights.qr_photopic_10.Reads as qr_photopic_10
@@ -117,7 +127,7 @@ one_unpack_record : OneResult unpack_record.Post
 one_unpack_record k a r q e f p s = same p.0 s.0
 
 left_unpack_record : OneExit (λ e. e.1.0.now) unpack_record.Post
-left_unpack_record k a r q e f p s = same p.1 s.1
+left_unpack_record k a r q e f p s = same p.1.0 s.1.0
 
 one_write_record : OneResult write_record.Post
 one_write_record k a r q e f p s = same p.0 s.0
@@ -134,6 +144,36 @@ left_write_report : OneExit (λ e. e.1.0.now) write_report.Post
 left_write_report k a r q e f p s = same p.1 s.1
 
 -- quailribbon
+
+one_flat_reading : OneResult flat_reading.Post
+one_flat_reading k a r q e f p s = same p s
+
+one_flat_xyz : OneResult flat_xyz.Post
+one_flat_xyz k a r q e f p s = same p s
+
+one_flat_xy : OneResult flat_xy.Post
+one_flat_xy k a r q e f p s = same p s
+
+one_flat_uv : OneResult flat_uv.Post
+one_flat_uv k a r q e f p s = same p s
+
+one_flat_point : OneResult flat_point.Post
+one_flat_point k a r q e f p s = same p s
+
+one_flat_chart : OneResult flat_chart.Post
+one_flat_chart k a r q e f p s = same p s
+
+one_flat_figures : OneResult flat_figures.Post
+one_flat_figures k a r q e f p s = same p s
+
+one_flat_panel_figures : OneResult flat_panel_figures.Post
+one_flat_panel_figures k a r q e f p s = same p s
+
+one_flat_record : OneResult flat_record.Post
+one_flat_record k a r q e f p s = same p s
+
+one_flat_written : OneResult flat_written.Post
+one_flat_written k a r q e f p s = same p s
 
 one_qr_photopic : OneResult qr_photopic.Post
 one_qr_photopic k a r q e f p s = same p s

@@ -1,4 +1,3 @@
 -- That every contract determines its function.
 pub mod Determined
 pub mod DeterminedLeaves
-pub mod DeterminedTables

@@ -1,16 +1,18 @@
-// Flat answers, by value: number 0 means that the values are given, but for those that have a number of their own beside
-// them (x and y of the figures); else it is the refusal's, and what is not given is 0.
+// Flat answers, by value, since C has no Result: number 0 means that the values are given, but for those that have a number of
+// their own beside them (x and y of the figures); else it is the refusal's, and what is not given is 0.
 
+/// A reading.
 #[repr(C)]
-#[derive(Clone, Copy)]
+#[derive(Clone, Copy, Debug, Default)]
 pub struct QrReading {
     pub number: u32,
     pub place: u32,
     pub value: u32,
 }
 
+/// X, Y and Z.
 #[repr(C)]
-#[derive(Clone, Copy)]
+#[derive(Clone, Copy, Debug, Default)]
 pub struct QrXyz {
     pub number: u32,
     pub place: u32,
@@ -19,8 +21,9 @@ pub struct QrXyz {
     pub z: u32,
 }
 
+/// x and y.
 #[repr(C)]
-#[derive(Clone, Copy)]
+#[derive(Clone, Copy, Debug, Default)]
 pub struct QrXy {
     pub number: u32,
     pub place: u32,
@@ -28,8 +31,9 @@ pub struct QrXy {
     pub y: u32,
 }
 
+/// u′ and v′.
 #[repr(C)]
-#[derive(Clone, Copy)]
+#[derive(Clone, Copy, Debug, Default)]
 pub struct QrUv {
     pub number: u32,
     pub place: u32,
@@ -37,8 +41,9 @@ pub struct QrUv {
     pub v: u32,
 }
 
+/// The chart's point.
 #[repr(C)]
-#[derive(Clone, Copy)]
+#[derive(Clone, Copy, Debug, Default)]
 pub struct QrChart {
     pub number: u32,
     pub place: u32,
@@ -48,8 +53,9 @@ pub struct QrChart {
     pub v: f64,
 }
 
+/// The figures of the report.
 #[repr(C)]
-#[derive(Clone, Copy)]
+#[derive(Clone, Copy, Debug, Default)]
 pub struct QrFigures {
     pub number: u32,
     pub place: u32,
@@ -63,8 +69,9 @@ pub struct QrFigures {
     pub y: u32,
 }
 
+/// A panel's X, Y, Z and x, y.
 #[repr(C)]
-#[derive(Clone, Copy)]
+#[derive(Clone, Copy, Debug, Default)]
 pub struct QrPanelFigures {
     pub number: u32,
     pub place: u32,
@@ -76,8 +83,9 @@ pub struct QrPanelFigures {
     pub y: u32,
 }
 
+/// What a record's header says.
 #[repr(C)]
-#[derive(Clone, Copy)]
+#[derive(Clone, Copy, Debug, Default)]
 pub struct QrRecord {
     pub number: u32,
     pub place: u32,
@@ -86,8 +94,9 @@ pub struct QrRecord {
     pub count: u32,
 }
 
+/// How much was written.
 #[repr(C)]
-#[derive(Clone, Copy)]
+#[derive(Clone, Copy, Debug, Default)]
 pub struct QrWritten {
     pub number: u32,
     pub place: u32,

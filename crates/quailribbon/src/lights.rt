@@ -6,74 +6,73 @@ ghost use Rattle.readings.specs.Figures.{said_figures};
 ghost use Rattle.quailribbon.specs.Flat.{flat_reading, flat_xyz, flat_xy, flat_uv, flat_chart, flat_figures};
 
 use crate::flat::{QrChart, QrFigures, QrReading, QrUv, QrXy, QrXyz};
-use crate::flatten::{flat_chart, flat_figures, flat_reading, flat_uv, flat_xy, flat_xyz};
 
 #[unsafe(no_mangle)]
 pub extern "C" fn qr_photopic(start: u32, step: u32, samples: &[u32]) -> QrReading
     ensures { result ≡ flat_reading (said_reading (photopic_of start step samples.now)) }
 {
-    flat_reading(readings::photopic(start, step, samples))
+    readings::photopic(start, step, samples).into()
 }
 
 #[unsafe(no_mangle)]
 pub extern "C" fn qr_scotopic(start: u32, step: u32, samples: &[u32]) -> QrReading
     ensures { result ≡ flat_reading (said_reading (scotopic_of start step samples.now)) }
 {
-    flat_reading(readings::scotopic(start, step, samples))
+    readings::scotopic(start, step, samples).into()
 }
 
 #[unsafe(no_mangle)]
 pub extern "C" fn qr_photopic_10(start: u32, step: u32, samples: &[u32]) -> QrReading
     ensures { result ≡ flat_reading (said_reading (photopic10_of start step samples.now)) }
 {
-    flat_reading(readings::photopic_10(start, step, samples))
+    readings::photopic_10(start, step, samples).into()
 }
 
 #[unsafe(no_mangle)]
 pub extern "C" fn qr_mesopic(k: u32, start: u32, step: u32, samples: &[u32]) -> QrReading
     ensures { result ≡ flat_reading (said_reading (mesopic_of k start step samples.now)) }
 {
-    flat_reading(readings::mesopic(k, start, step, samples))
+    readings::mesopic(k, start, step, samples).into()
 }
 
 #[unsafe(no_mangle)]
 pub extern "C" fn qr_research(observer: u32, start: u32, step: u32, samples: &[u32]) -> QrReading
     ensures { result ≡ flat_reading (said_reading (research_of observer start step samples.now)) }
 {
-    flat_reading(readings::research(observer, start, step, samples))
+    readings::research(observer, start, step, samples).into()
 }
 
 #[unsafe(no_mangle)]
 pub extern "C" fn qr_xyz(observer: u32, start: u32, step: u32, samples: &[u32]) -> QrXyz
     ensures { result ≡ flat_xyz (said_xyz (xyz_of observer start step samples.now)) }
 {
-    flat_xyz(readings::colour::xyz(observer, start, step, samples))
+    readings::colour::xyz(observer, start, step, samples).into()
 }
 
 #[unsafe(no_mangle)]
 pub extern "C" fn qr_xy(observer: u32, start: u32, step: u32, samples: &[u32]) -> QrXy
     ensures { result ≡ flat_xy (said_xy (xy_of observer start step samples.now)) }
 {
-    flat_xy(readings::colour::xy(observer, start, step, samples))
+    readings::colour::xy(observer, start, step, samples).into()
 }
 
 #[unsafe(no_mangle)]
 pub extern "C" fn qr_uv(observer: u32, start: u32, step: u32, samples: &[u32]) -> QrUv
     ensures { result ≡ flat_uv (said_uv (uv_of observer start step samples.now)) }
 {
-    flat_uv(readings::colour::uv(observer, start, step, samples))
+    readings::colour::uv(observer, start, step, samples).into()
 }
 
 #[unsafe(no_mangle)]
 pub extern "C" fn qr_chart(observer: u32, start: u32, step: u32, samples: &[u32]) -> QrChart
     ensures { result ≡ flat_chart (said_chart (chart_of observer start step samples.now)) }
 {
-    flat_chart(readings::colour::chart(observer, start, step, samples))
+    readings::colour::chart(observer, start, step, samples).into()
 }
 
 #[unsafe(no_mangle)]
 pub extern "C" fn qr_figures(start: u32, step: u32, samples: &[u32]) -> QrFigures
     ensures { result ≡ flat_figures (said_figures (figures_of start step samples.now)) }
 {
-    flat_figures(readings::figures::figures(start, step, samples))
+    readings::figures::figures(start, step, samples).into()
 }

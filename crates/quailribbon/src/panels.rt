@@ -6,7 +6,6 @@ ghost use Rattle.panel.specs.Figures.{panel_figures_of, said_panel_figures};
 ghost use Rattle.quailribbon.specs.Flat.{flat_xyz, flat_xy, flat_uv, flat_chart, flat_panel_figures};
 
 use crate::flat::{QrChart, QrPanelFigures, QrUv, QrXy, QrXyz};
-use crate::flatten::{flat_chart, flat_panel_figures, flat_uv, flat_xy, flat_xyz};
 
 #[unsafe(no_mangle)]
 pub extern "C" fn qr_panel_xyz(
@@ -18,7 +17,7 @@ pub extern "C" fn qr_panel_xyz(
 ) -> QrXyz
     ensures { result ≡ flat_xyz (said_xyz (panel_xyz_of observer illuminant start step reflectances.now)) }
 {
-    flat_xyz(panel::panel_xyz(observer, illuminant, start, step, reflectances))
+    panel::panel_xyz(observer, illuminant, start, step, reflectances).into()
 }
 
 #[unsafe(no_mangle)]
@@ -31,7 +30,7 @@ pub extern "C" fn qr_panel_xy(
 ) -> QrXy
     ensures { result ≡ flat_xy (said_xy (panel_xy_of observer illuminant start step reflectances.now)) }
 {
-    flat_xy(panel::panel_xy(observer, illuminant, start, step, reflectances))
+    panel::panel_xy(observer, illuminant, start, step, reflectances).into()
 }
 
 #[unsafe(no_mangle)]
@@ -44,7 +43,7 @@ pub extern "C" fn qr_panel_uv(
 ) -> QrUv
     ensures { result ≡ flat_uv (said_uv (panel_uv_of observer illuminant start step reflectances.now)) }
 {
-    flat_uv(panel::panel_uv(observer, illuminant, start, step, reflectances))
+    panel::panel_uv(observer, illuminant, start, step, reflectances).into()
 }
 
 #[unsafe(no_mangle)]
@@ -57,7 +56,7 @@ pub extern "C" fn qr_panel_chart(
 ) -> QrChart
     ensures { result ≡ flat_chart (said_chart (panel_chart_of observer illuminant start step reflectances.now)) }
 {
-    flat_chart(panel::panel_chart(observer, illuminant, start, step, reflectances))
+    panel::panel_chart(observer, illuminant, start, step, reflectances).into()
 }
 
 #[unsafe(no_mangle)]
@@ -70,11 +69,5 @@ pub extern "C" fn qr_panel_figures(
 ) -> QrPanelFigures
     ensures { result ≡ flat_panel_figures (said_panel_figures (panel_figures_of observer illuminant start step reflectances.now)) }
 {
-    flat_panel_figures(panel::figures::panel_figures(
-        observer,
-        illuminant,
-        start,
-        step,
-        reflectances,
-    ))
+    panel::panel_figures(observer, illuminant, start, step, reflectances).into()
 }

@@ -7,14 +7,13 @@ ghost use Rattle.page.specs.Said.{said_reported};
 ghost use Rattle.quailribbon.specs.Records.{flat_record, flat_written};
 
 use crate::flat::{QrRecord, QrWritten};
-use crate::flatten::{flat_record, flat_reported, flat_written};
 
 #[unsafe(no_mangle)]
 pub extern "C" fn qr_read_record(bytes: &[u8], samples: &mut [u32]) -> QrRecord
     ensures value { result ≡ flat_record (said_read (read_answer bytes.now (length samples.old))) }
     ensures samples_after { samples.new ≡ row_after bytes.now samples.old }
 {
-    flat_record(record::read_record(bytes, samples))
+    record::read_record(bytes, samples).into()
 }
 
 #[unsafe(no_mangle)]
@@ -27,7 +26,7 @@ pub extern "C" fn qr_write_record(
     ensures value { result ≡ flat_written (said_written (write_answer start step samples.now (length bytes.old))) }
     ensures bytes_after { bytes.new ≡ bytes_after start step samples.now bytes.old }
 {
-    flat_written(record::write_record(start, step, samples, bytes))
+    record::write_record(start, step, samples, bytes).into()
 }
 
 #[unsafe(no_mangle)]
@@ -35,5 +34,5 @@ pub extern "C" fn qr_report(bytes: &[u8], text: &mut [u8]) -> QrWritten
     ensures value { result ≡ flat_written (said_reported (report_answer bytes.now (length text.old))) }
     ensures text_after { text.new ≡ text_after bytes.now text.old }
 {
-    flat_reported(page::write_report(bytes, text))
+    page::write_report(bytes, text).into()
 }

@@ -2,5 +2,5 @@
 pub mod Setting
 pub mod Worked
 pub mod Small
-pub mod LightSums
-pub mod Part
+pub mod Rows
+pub mod Given

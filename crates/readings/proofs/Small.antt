@@ -1,24 +1,23 @@
 -- The sums of samples within the limit have a bound, so every reading is a number of 32 bits, and every sum on the way one of 96.
-use mathlib.Core.Path.{◌≡◌}
-use mathlib.Core.List.{List}
-use Prim.Native.Nat.{ℕ, ◌*◌, ◌-◌, ◌≤◌, ◌<◌}
-use native.Mathlib.Nat.{mul_assoc, mul-le-mul_left}
-use native.Mathlib.Omega.{arith}
-use Rattle.grid.specs.declared.Check.TheVariants.{Fine}
-use Rattle.grid.specs.Check.{Within, light_check}
-use Rattle.grid.proofs.Light.{within, on_grid}
+use Rattle.std.proofs.Common.{List, ℕ, ◌*◌, ◌-◌, ◌^◌, ◌≤◌, ◌<◌, arith}
+use Rattle.std.proofs.Math.Nat.{mul_assoc, mul-le-mul_left}
+use Rattle.grid.specs.Check.{Within}
 use Rattle.mixing.proofs.Nearest.{nearest_bound}
 use Rattle.exact.specs.Fits.{Fits}
 use Rattle.tables.specs.declared.Curve.{Curve}
 use Rattle.tables.specs.declared.Curve.TheVariants.{XBar, YBar, ZBar, VPrime}
+use Rattle.tables.specs.declared.settings.Observer.{Observer}
+use Rattle.tables.specs.Settings.{curves_of}
 use Rattle.tables.specs.Curves.{weight_of}
 use Rattle.tables.specs.Columns.{table_sum}
 use Rattle.tables.proofs.Columns.{column_total}
 use Rattle.tables.proofs.Sums.{table_sum_small}
+use Rattle.spectrum.specs.Spectrum.{Accepted}
 use Rattle.spectrum.proofs.Light.{W_bound}
+use Rattle.answers.specs.Worked.{uv_divisor}
 use Rattle.efficacy.specs.Divisors.{divisor_of}
 use Rattle.efficacy.proofs.Worked.{divisor_bounds, millilux_worked}
-use Rattle.readings.specs.Readings.{weighed, millilux, mesopic_weighed, light_figures}
+use Rattle.readings.specs.Readings.{weighed, millilux, mesopic_weighed, x_sum, y_sum, z_sum, light_figures}
 use Rattle.readings.specs.Sums.{mesopic_divisor}
 use Rattle.readings.proofs.Setting.{mixed_order, mixed_same}
 
@@ -39,16 +38,25 @@ mesopic_ratio :
 mesopic_ratio s w d p q = omega arith
 
 -- every reading of an accepted light is a number of 32 bits
-module _ (a s : ℕ) (xs : List ℕ) (fine : light_check a s xs ≡ Fine) where
+module _ (a s : ℕ) (xs : List ℕ) (ok : Accepted 1000000 (record { start = a; step = s; samples = xs })) where
   step_some : 0 < s
-  step_some = (on_grid a s xs fine).step_low
+  step_some = ok.on.step_low
 
   small : (c : Curve) → weighed c a s xs ≤ s * 2000000000000000000000
-  small = weighed_small a s xs step_some (within a s xs fine)
+  small = weighed_small a s xs step_some ok.within
 
   -- what a curve's sum is divided by is at least s times 4 · 10^15
   least : (c : Curve) → s * 4000000000000000 ≤ s * divisor_of c
   least c = mul-le-mul_left s (divisor_bounds c).0
+
+  -- what u′ and v′ are divided by is a number of 96 bits
+  pub divisor_small : (o : Observer) → uv_divisor (x_sum o a s xs) (y_sum o a s xs) (z_sum o a s xs) < 2 ^ 96
+  divisor_small o =
+      let high = ok.on.step_high in
+      let x = small (curves_of o).x in
+      let y = small (curves_of o).y in
+      let z = small (curves_of o).z in
+      omega arith
 
   pub millilux_fits : (c : Curve) → Fits (683 * weighed c a s xs) (s * divisor_of c)
   millilux_fits c =

@@ -1,39 +1,31 @@
--- Each reading, refusals and all, is a nearest quotient of 683 times its sum, since what the fractions have in common cancels.
-use mathlib.Core.Path.{◌≡◌, refl}
-use mathlib.Core.Bool.{Bool, true, false, cond}
-use mathlib.Core.List.{List}
-use Prim.Native.Nat.{ℕ, ◌+◌, ◌*◌, ◌-◌, ◌^◌}
-use native.Mathlib.Omega.{arith}
-use lib.Dec.{eqb, lit≤}
-use Rattle.grid.specs.Check.{unless, light_check}
+-- Each reading of a light is a nearest quotient of 683 times its sum, since what the fractions have in common cancels.
+use Rattle.std.proofs.Common.{◌≡◌, refl, List, ℕ, ◌+◌, ◌*◌, ◌-◌, ◌^◌, Ok, nat_le, arith}
+use lib.Dec.{lit≤}
+use Rattle.grid.specs.declared.refusals.Kind.TheVariants.{Mesopic}
+use Rattle.grid.specs.Check.{◌>>=◌, require}
 use Rattle.mixing.specs.Nearest.{nearest}
 use Rattle.mixing.proofs.Nearest.{nearest_cancel}
 use Rattle.tables.specs.declared.Curve.{Curve}
-use Rattle.tables.specs.declared.Curve.TheVariants.{XBar, YBar, ZBar, XBar10, YBar10, ZBar10, VPrime}
-use Rattle.answers.specs.declared.Reading.{Reading}
-use Rattle.answers.specs.declared.XyzAnswer.{XyzAnswer}
+use Rattle.tables.specs.declared.Curve.TheVariants.{YBar, VPrime}
+use Rattle.tables.specs.declared.settings.Observer.{Observer}
+use Rattle.tables.specs.declared.settings.Observer.TheVariants.{Two, Ten}
+use Rattle.tables.specs.Settings.{curves_of}
+use Rattle.spectrum.specs.Spectrum.{light_of}
 use Rattle.answers.specs.Worked.{xyz_from}
 use Rattle.efficacy.specs.Divisors.{divisor_of}
 use Rattle.efficacy.proofs.Worked.{millilux_worked, bracket_is}
-use Rattle.curves.specs.Observer.{curves_of}
-use Rattle.readings.specs.Readings.{weighed, illuminance_of, mesopic_check, mesopic_weighed, mesopic_millilux, mesopic_of, colour_check, x_sum, y_sum, z_sum, light_xyz, xyz_of}
+use Rattle.readings.specs.Readings.{weighed, illuminance_of, mesopic_weighed, mesopic_millilux, mesopic_of, seen_of, x_sum, y_sum, z_sum, light_xyz, xyz_of}
 use Rattle.readings.specs.Sums.{mesopic_divisor}
 use Rattle.readings.proofs.Setting.{mixed_times}
 
 -- an observer's three curves have one divisor
 pub one_divisor :
-    (o : ℕ) → (divisor_of (curves_of o).x ≡ divisor_of (curves_of o).y) × (divisor_of (curves_of o).z ≡ divisor_of (curves_of o).y)
-one_divisor o = go (eqb o 10)
-  where
-    go :
-        (ten : Bool) →
-        (divisor_of (cond ten XBar10 XBar) ≡ divisor_of (cond ten YBar10 YBar))
-        × (divisor_of (cond ten ZBar10 ZBar) ≡ divisor_of (cond ten YBar10 YBar))
-    go true = (refl, refl)
-    go false = (refl, refl)
+    (o : Observer) → (divisor_of (curves_of o).x ≡ divisor_of (curves_of o).y) × (divisor_of (curves_of o).z ≡ divisor_of (curves_of o).y)
+one_divisor Two = (refl, refl)
+one_divisor Ten = (refl, refl)
 
 pub xyz_worked :
-    (o a s : ℕ) (xs : List ℕ) →
+    (o : Observer) (a s : ℕ) (xs : List ℕ) →
     light_xyz o a s xs
     ≡ xyz_from (683 * x_sum o a s xs) (683 * y_sum o a s xs) (683 * z_sum o a s xs) (s * divisor_of (curves_of o).y)
 xyz_worked o a s xs =
@@ -61,24 +53,29 @@ mesopic_worked k a s xs =
     under : (s b : ℕ) → s * 10 ^ 16 * (1000 * b) ≡ 1000 * 10 ^ 16 * (s * b)
     under s b = omega arith
 
+-- and so is each reading, refusals and all
 module _ (a s : ℕ) (xs : List ℕ) where
   pub illuminance_is :
       (c : Curve) →
-      illuminance_of c a s xs ≡ unless (light_check a s xs) Reading.Refused (Reading.Value (nearest (683 * weighed c a s xs) (s * divisor_of c)))
+      illuminance_of c a s xs ≡ (light_of a s xs >>= (λ l. Ok (nearest (683 * weighed c l.start l.step l.samples) (l.step * divisor_of c))))
   unfolding illuminance_of
-  illuminance_is c = rw (millilux_worked c s (weighed c a s xs))
+  illuminance_is c = λ i. light_of a s xs >>= (λ l. Ok (millilux_worked c l.step (weighed c l.start l.step l.samples) i))
 
   pub mesopic_is :
       (k : ℕ) →
       mesopic_of k a s xs
-      ≡ unless (mesopic_check k a s xs) Reading.Refused (Reading.Value (nearest (683 * mesopic_weighed k a s xs) (mesopic_divisor k s)))
+      ≡ (require (nat_le k 1000) Mesopic >>= (λ _. light_of a s xs >>= (λ l.
+      Ok (nearest (683 * mesopic_weighed k l.start l.step l.samples) (mesopic_divisor k l.step)))))
   unfolding mesopic_of
-  mesopic_is k = rw (mesopic_worked k a s xs)
+  mesopic_is k =
+      λ i. require (nat_le k 1000) Mesopic >>= (λ _. light_of a s xs >>= (λ l. Ok (mesopic_worked k l.start l.step l.samples i)))
 
   pub xyz_is :
       (o : ℕ) →
       xyz_of o a s xs
-      ≡ unless (colour_check o a s xs) XyzAnswer.Refused
-      (XyzAnswer.Value (xyz_from (683 * x_sum o a s xs) (683 * y_sum o a s xs) (683 * z_sum o a s xs) (s * divisor_of (curves_of o).y)))
+      ≡ (seen_of o a s xs >>= (λ seen.
+      let l = seen.1 in
+      Ok (xyz_from (683 * x_sum seen.0 l.start l.step l.samples) (683 * y_sum seen.0 l.start l.step l.samples)
+      (683 * z_sum seen.0 l.start l.step l.samples) (l.step * divisor_of (curves_of seen.0).y))))
   unfolding xyz_of
-  xyz_is o = rw (xyz_worked o a s xs)
+  xyz_is o = λ i. seen_of o a s xs >>= (λ seen. Ok (xyz_worked seen.0 seen.1.start seen.1.step seen.1.samples i))

@@ -1,77 +1,52 @@
 // X, Y, Z, the coordinates x, y and u′, v′, and the chart's point of a light, all from the same three exact sums.
 ghost use Rattle.std.specs.Prelude.{◌≡◌};
-ghost use Rattle.readings.specs.Readings.{colour_check, xyz_of, xy_of, uv_of, chart_of};
-ghost use Rattle.readings.specs.Sums.{LightSummed};
+ghost use Rattle.readings.specs.Readings.{light_xyz, xyz_of, xy_of, uv_of, chart_of};
 
-use crate::sums::colour_sums;
-use answers::from_sums::{SumsAnswer, chart_summed, uv_summed, xy_summed};
-use answers::work::xyz_from;
-use answers::{ChartAnswer, UvAnswer, XyAnswer, XyzAnswer};
-use curves::weigh::curves_of;
+use crate::Light;
+use crate::sums::{light_sums, seen, sums};
+use answers::{OnChart, Uv, Xy, Xyz};
 use efficacy::{FACTOR, divisor};
-use grid::refusals::OBSERVER;
-use grid::{Check, check_light, is_observer, refused};
-use spectrum::line::begin_at_360;
+use grid::Refusal;
+use tables::settings::Observer;
 
-// X, Y and Z in millilux.
-pub fn xyz(observer: u32, start: u32, step: u32, samples: &[u32]) -> XyzAnswer
+/// X, Y and Z in millilux: OBSERVER, STEP, START, COUNT, SAMPLE.
+#[tactic(auto, unfolding(crate::specs::Readings::xyz_of))]
+pub fn xyz(observer: u32, start: u32, step: u32, samples: &[u32]) -> Result<Xyz, Refusal>
     ensures { result ≡ xyz_of observer start step samples.now }
 {
-    let answer = light_sums(observer, start, step, samples);
-    match answer {
-        SumsAnswer::Given(sums) => {
-            // An observer's three curves have one efficacy.
-            let curves = curves_of(observer);
-            let y = curves.y;
-            XyzAnswer::Value(xyz_from(FACTOR, sums, divisor(y, step)))
-        }
-        SumsAnswer::Refused(refusal) => XyzAnswer::Refused(refusal),
-    }
+    let (observer, light) = seen(observer, start, step, samples)?;
+    Ok(light_xyz(observer, &light))
 }
 
-// x and y in hundred-thousandths.
-pub fn xy(observer: u32, start: u32, step: u32, samples: &[u32]) -> XyAnswer
+// An observer's three curves have one efficacy.
+#[tactic(auto, using(crate::proofs::Rows::xyz_fit, crate::proofs::Worked::xyz_worked))]
+fn light_xyz(observer: Observer, light: &Light) -> Xyz
+    ensures { result ≡ light_xyz observer light.now.start light.now.step light.now.samples }
+{
+    let divisor = divisor(observer.curves().y, light.step());
+    light_sums(observer, light).xyz(FACTOR, divisor)
+}
+
+/// x and y in hundred-thousandths: OBSERVER, STEP, START, COUNT, SAMPLE, DARK.
+#[tactic(auto, unfolding(crate::specs::Readings::xy_of))]
+pub fn xy(observer: u32, start: u32, step: u32, samples: &[u32]) -> Result<Xy, Refusal>
     ensures { result ≡ xy_of observer start step samples.now }
 {
-    xy_summed(light_sums(observer, start, step, samples))
+    sums(observer, start, step, samples)?.xy()
 }
 
-// u′ and v′ in hundred-thousandths.
-pub fn uv(observer: u32, start: u32, step: u32, samples: &[u32]) -> UvAnswer
+/// u′ and v′ in hundred-thousandths: OBSERVER, STEP, START, COUNT, SAMPLE, DARK.
+#[tactic(auto, unfolding(crate::specs::Readings::uv_of))]
+pub fn uv(observer: u32, start: u32, step: u32, samples: &[u32]) -> Result<Uv, Refusal>
     ensures { result ≡ uv_of observer start step samples.now }
 {
-    uv_summed(light_sums(observer, start, step, samples))
+    sums(observer, start, step, samples)?.uv()
 }
 
-// The chart's point, or dark.
-pub fn chart(observer: u32, start: u32, step: u32, samples: &[u32]) -> ChartAnswer
+/// The chart's point, or dark: OBSERVER, STEP, START, COUNT, SAMPLE.
+#[tactic(auto, unfolding(crate::specs::Readings::chart_of))]
+pub fn chart(observer: u32, start: u32, step: u32, samples: &[u32]) -> Result<OnChart, Refusal>
     ensures { result ≡ chart_of observer start step samples.now }
 {
-    chart_summed(light_sums(observer, start, step, samples))
-}
-
-// OBSERVER, and then the light's own refusals.
-fn check_colour(observer: u32, start: u32, step: u32, samples: &[u32]) -> Check
-    ensures { result ≡ colour_check observer start step samples.now }
-{
-    if is_observer(observer) {
-        check_light(start, step, samples)
-    } else {
-        refused(OBSERVER)
-    }
-}
-
-// The three sums of a light, or its first refusal.
-fn light_sums(observer: u32, start: u32, step: u32, samples: &[u32]) -> SumsAnswer
-    ensures { LightSummed observer start step samples.now result }
-{
-    let check = check_colour(observer, start, step, samples);
-    match check {
-        Check::Fine => {
-            let begin = begin_at_360(start, step);
-            let j = begin.place;
-            SumsAnswer::Given(colour_sums(observer, begin.wavelength, step, &samples[j..]))
-        }
-        Check::Refused(refusal) => SumsAnswer::Refused(refusal),
-    }
+    Ok(sums(observer, start, step, samples)?.chart())
 }

@@ -1,62 +1,50 @@
 // The figures of the report, at observer 2, in one call: the row is laid once, and each sum is made once.
-ghost use Rattle.std.specs.Prelude.{◌≡◌, ◌≤◌};
-ghost use Rattle.exact.specs.Value.{short};
-ghost use Rattle.readings.specs.Readings.{figures_of};
-ghost use Rattle.readings.specs.Sums.{figures_from, FiguresFit};
+ghost use Rattle.std.specs.Prelude.{◌≡◌};
+ghost use Rattle.readings.specs.Readings.{light_figures, figures_of};
 
-use crate::sums::{FigureSums, figure_sums};
-use answers::work::{xy_from, xyz_from};
-use answers::{XyAnswer, Xyz};
+use crate::Light;
+use crate::sums::row_sums;
+use answers::{Xy, Xyz};
+use curves::weigh::weigh;
 use efficacy::{FACTOR, divisor};
-use exact::divide::nearest;
-use grid::{Check, Refusal, check_light};
-use spectrum::line::begin_at_360;
+use exact::nearest;
+use grid::Refusal;
 use tables::Curve;
+use tables::settings::Observer;
 
-// x and y may be refused as dark.
-#[derive(Clone, Copy)]
+/// x and y may be refused as dark.
+#[derive(Clone, Copy, Debug, PartialEq, Eq)]
 pub struct ReportFigures {
     pub photopic: u32,
     pub scotopic: u32,
     pub xyz: Xyz,
-    pub xy: XyAnswer,
+    pub xy: Result<Xy, Refusal>,
 }
 
-#[derive(Clone, Copy)]
-pub enum FiguresAnswer {
-    Value(ReportFigures),
-    Refused(Refusal),
-}
-
-pub fn figures(start: u32, step: u32, samples: &[u32]) -> FiguresAnswer
+/// The figures of the report: STEP, START, COUNT, SAMPLE.
+#[tactic(auto, unfolding(crate::specs::Readings::figures_of))]
+pub fn figures(start: u32, step: u32, samples: &[u32]) -> Result<ReportFigures, Refusal>
     ensures { result ≡ figures_of start step samples.now }
 {
-    let check = check_light(start, step, samples);
-    match check {
-        Check::Fine => {
-            let begin = begin_at_360(start, step);
-            let j = begin.place;
-            FiguresAnswer::Value(figures_from(
-                step,
-                figure_sums(begin.wavelength, step, &samples[j..]),
-            ))
-        }
-        Check::Refused(refusal) => FiguresAnswer::Refused(refusal),
-    }
+    let light = Light::new(start, step, samples)?;
+    Ok(light_figures(&light))
 }
 
-// From the four sums. Photopic is Y, which is not divided twice.
-fn figures_from(step: u32, sums: FigureSums) -> ReportFigures
-    requires { (step ≤ 10) × FiguresFit step sums }
-    ensures { result ≡ figures_from step (short sums.colour.x) (short sums.colour.y) (short sums.colour.z) (short sums.night) }
+// Photopic is Y, which is not divided twice.
+#[tactic(auto, using(crate::proofs::Rows::row_small, crate::proofs::Rows::row_xyz_fit, crate::proofs::Rows::row_fits))]
+fn light_figures(light: &Light) -> ReportFigures
+    ensures { result ≡ light_figures light.now.start light.now.step light.now.samples }
 {
-    let colour = sums.colour;
-    let night = sums.night;
-    let xyz = xyz_from(FACTOR, colour, divisor(Curve::YBar, step));
+    let mut row = [0u64; 471];
+    light.lay(&mut row);
+    let step = light.step();
+    let sums = row_sums(Observer::Two, &row);
+    let xyz = sums.xyz(FACTOR, divisor(Curve::YBar, step));
+    let night = weigh(Curve::VPrime, &row);
     ReportFigures {
         photopic: xyz.y,
-        scotopic: nearest(FACTOR, night, divisor(Curve::VPrime, step)),
+        scotopic: nearest(FACTOR as u128 * night, divisor(Curve::VPrime, step)),
         xyz,
-        xy: xy_from(colour),
+        xy: sums.xy(),
     }
 }

@@ -1,4 +1,5 @@
-// Every reading of a light. The illuminances are here.
+// Every reading of a light. The illuminances are here. Who looks is asked for by number, not by `Observer`: any number has its
+// answer, and its refusal its place in the order.
 #![tactic(auto)]
 
 pub mod colour;
@@ -6,94 +7,92 @@ pub mod figures;
 mod sums;
 
 ghost use Rattle.std.specs.Prelude.{◌≡◌, ◌≤◌};
-ghost use Rattle.grid.specs.declared.Check.TheVariants.{Fine};
-ghost use Rattle.grid.specs.Check.{light_check};
-ghost use Rattle.readings.specs.Readings.{illuminance_of, photopic_of, scotopic_of, photopic10_of, research_of, mesopic_of, mesopic_millilux};
+ghost use Rattle.readings.specs.Readings.{illuminance_of, photopic_of, scotopic_of, photopic10_of, research_of, millilux, mesopic_of, mesopic_millilux};
 
-use crate::sums::{at_setting, mesopic_weighed, weighed};
-use answers::Reading;
+use crate::sums::at_setting;
+use curves::weigh::weigh;
 use efficacy::{FACTOR, divisor};
-use exact::divide::nearest;
-use grid::refusals::{MESOPIC, OBSERVER};
-use grid::{Check, Refusal, check_light};
-use spectrum::line::begin_at_360;
+use exact::nearest;
+use grid::{Kind, Refusal, require};
+use spectrum::Spectrum;
 use tables::Curve;
 
-// Photopic illuminance in millilux.
-pub fn photopic(start: u32, step: u32, samples: &[u32]) -> Reading
+/// Samples whose refusals are behind them.
+pub type Light<'a> = Spectrum<'a, u32>;
+
+/// Photopic illuminance in millilux: STEP, START, COUNT, SAMPLE.
+pub fn photopic(start: u32, step: u32, samples: &[u32]) -> Result<u32, Refusal>
     ensures { result ≡ photopic_of start step samples.now }
 {
     illuminance(Curve::YBar, start, step, samples)
 }
 
-// Scotopic illuminance in millilux.
-pub fn scotopic(start: u32, step: u32, samples: &[u32]) -> Reading
+/// Scotopic illuminance in millilux: STEP, START, COUNT, SAMPLE.
+pub fn scotopic(start: u32, step: u32, samples: &[u32]) -> Result<u32, Refusal>
     ensures { result ≡ scotopic_of start step samples.now }
 {
     illuminance(Curve::VPrime, start, step, samples)
 }
 
-// 10° photopic illuminance in millilux.
-pub fn photopic_10(start: u32, step: u32, samples: &[u32]) -> Reading
+/// 10° photopic illuminance in millilux: STEP, START, COUNT, SAMPLE.
+pub fn photopic_10(start: u32, step: u32, samples: &[u32]) -> Result<u32, Refusal>
     ensures { result ≡ photopic10_of start step samples.now }
 {
     illuminance(Curve::YBar10, start, step, samples)
 }
 
-// Illuminance in millilux by a cone-fundamental curve, of 2° for the number 32 and of 10° for 40.
-pub fn research(observer: u32, start: u32, step: u32, samples: &[u32]) -> Reading
+/// Illuminance in millilux by a cone-fundamental curve, of 2° for the number 32 and of 10° for 40: OBSERVER, STEP, START, COUNT,
+/// SAMPLE.
+pub fn research(observer: u32, start: u32, step: u32, samples: &[u32]) -> Result<u32, Refusal>
     ensures { result ≡ research_of observer start step samples.now }
 {
     match observer {
         32 => illuminance(Curve::VF, start, step, samples),
         40 => illuminance(Curve::VF10, start, step, samples),
-        _ => Reading::Refused(Refusal {
-            number: OBSERVER,
-            place: 0,
-        }),
+        _ => Err(Kind::Observer.into()),
     }
 }
 
-fn illuminance(curve: Curve, start: u32, step: u32, samples: &[u32]) -> Reading
+#[tactic(auto, unfolding(crate::specs::Readings::illuminance_of))]
+fn illuminance(curve: Curve, start: u32, step: u32, samples: &[u32]) -> Result<u32, Refusal>
     ensures { result ≡ illuminance_of curve start step samples.now }
 {
-    let check = check_light(start, step, samples);
-    match check {
-        Check::Fine => {
-            let begin = begin_at_360(start, step);
-            let j = begin.place;
-            let sum = weighed(curve, begin.wavelength, step, &samples[j..]);
-            Reading::Value(nearest(FACTOR, sum, divisor(curve, step)))
-        }
-        Check::Refused(refusal) => Reading::Refused(refusal),
-    }
+    let light = Light::new(start, step, samples)?;
+    Ok(millilux(curve, &light))
 }
 
-// The illuminance between day and night vision, at k thousandths, in millilux.
-pub fn mesopic(k: u32, start: u32, step: u32, samples: &[u32]) -> Reading
+// By a curve, in millilux.
+#[tactic(auto, using(crate::proofs::Rows::row_small, crate::proofs::Rows::row_millilux, crate::proofs::Rows::row_fits))]
+fn millilux(curve: Curve, light: &Light) -> u32
+    ensures { result ≡ millilux curve light.now.start light.now.step light.now.samples }
+{
+    let mut row = [0u64; 471];
+    light.lay(&mut row);
+    nearest(
+        FACTOR as u128 * weigh(curve, &row),
+        divisor(curve, light.step()),
+    )
+}
+
+/// The illuminance between day and night vision, at k thousandths, in millilux: MESOPIC, STEP, START, COUNT, SAMPLE.
+#[tactic(auto, unfolding(crate::specs::Readings::mesopic_of))]
+pub fn mesopic(k: u32, start: u32, step: u32, samples: &[u32]) -> Result<u32, Refusal>
     ensures { result ≡ mesopic_of k start step samples.now }
 {
-    if 1000 < k {
-        return Reading::Refused(Refusal {
-            number: MESOPIC,
-            place: 0,
-        });
-    }
-    let check = check_light(start, step, samples);
-    match check {
-        Check::Fine => Reading::Value(mesopic_of_light(k, start, step, samples)),
-        Check::Refused(refusal) => Reading::Refused(refusal),
-    }
+    require(k <= 1000, Kind::Mesopic)?;
+    let light = Light::new(start, step, samples)?;
+    Ok(mesopic_millilux(k, &light))
 }
 
-fn mesopic_of_light(k: u32, start: u32, step: u32, samples: &[u32]) -> u32
-    requires { (k ≤ 1000) × (light_check start step samples.now ≡ Fine) }
-    ensures { result ≡ mesopic_millilux k start step samples.now }
+#[tactic(auto, using(crate::proofs::Rows::row_small, crate::proofs::Rows::row_mesopic, crate::proofs::Rows::row_mesopic_fits))]
+fn mesopic_millilux(k: u32, light: &Light) -> u32
+    requires { k ≤ 1000 }
+    ensures { result ≡ mesopic_millilux k light.now.start light.now.step light.now.samples }
 {
-    let begin = begin_at_360(start, step);
-    let j = begin.place;
-    let sum = mesopic_weighed(k, begin.wavelength, step, &samples[j..]);
-    let day = divisor(Curve::YBar, step);
-    let night = divisor(Curve::VPrime, step);
-    nearest(FACTOR, sum, at_setting(k, day, night))
+    let mut row = [0u64; 471];
+    light.lay(&mut row);
+    let sum = at_setting(k, weigh(Curve::YBar, &row), weigh(Curve::VPrime, &row));
+    let step = light.step();
+    let divisor = at_setting(k, divisor(Curve::YBar, step), divisor(Curve::VPrime, step));
+    nearest(FACTOR as u128 * sum, divisor)
 }

@@ -1,70 +1,71 @@
-// The weighted sums of a light. Each is lent the part of the row that begins at the sample at or just below 360 nm, lays
-// the line over it once, and weighs that by every curve it is asked for.
-ghost use Rattle.std.specs.Prelude.{◌≡◌, ◌+◌, ◌*◌, ◌-◌, ◌≤◌};
-ghost use Rattle.exact.specs.Value.{short};
-ghost use Rattle.spectrum.specs.Begin.{Begun};
-ghost use Rattle.readings.specs.Readings.{weighed as weighed_by, mesopic_weighed};
-ghost use Rattle.readings.specs.Sums.{LightSums, FigureSumsOf};
+// The weighted sums of a light, whose line is laid over a row once and weighed by every curve that is asked for.
+ghost use Rattle.std.specs.Prelude.{◌≡◌, ◌+◌, ◌*◌, ◌-◌, ◌≤◌, ◌^◌};
+ghost use Rattle.grid.specs.Check.{Within};
+ghost use Rattle.readings.specs.Readings.{seen_of, light_sums, sums_of};
+ghost use Rattle.readings.specs.Sums.{row_sums};
 
-use curves::weigh::{Sums, row_sums, weigh};
-use exact::digits::{Short, joined, short_times_plus};
-use spectrum::line::lay;
-use tables::Curve;
+use crate::Light;
+use answers::sums::Sums;
+use curves::weigh::weigh;
+use grid::Refusal;
+use tables::settings::Observer;
 
-// W of a curve.
-pub fn weighed(curve: Curve, first: u32, step: u32, part: &[u32]) -> Short
-    requires { Begun 1000000 first step part.now }
-    ensures { short result ≡ weighed_by curve first step part.now }
+/// k · day + (1000 - k) · night. No sum is above 10 · 1,000,000 times a table's, which is at most 2 · 10^15, and no divisor is
+/// either.
+#[tactic(auto, using(crate::proofs::Setting::mixed_most))]
+pub fn at_setting(k: u32, day: u128, night: u128) -> u128
+    requires setting { k ≤ 1000 }
+    requires by_day { day ≤ 20000000000000000000000 }
+    requires by_night { night ≤ 20000000000000000000000 }
+    ensures mixed { result ≡ k * day + (1000 - k) * night }
+    ensures most { result ≤ 20000000000000000000000000 }
 {
-    let mut row = [0u64; 471];
-    lay(first, step, part, &mut row);
-    weigh(curve, &row)
+    k as u128 * day + (1000 - k) as u128 * night
 }
 
-// k · W(V) + (1000 - k) · W(V′).
-pub fn mesopic_weighed(k: u32, first: u32, step: u32, part: &[u32]) -> Short
-    requires { (k ≤ 1000) × Begun 1000000 first step part.now }
-    ensures { short result ≡ mesopic_weighed k first step part.now }
+/// The sums of a row by the observer's three curves.
+pub fn row_sums(observer: Observer, row: &[u64; 471]) -> Sums
+    requires { Within 10000000 row.now }
+    ensures { result ≡ row_sums observer row.now }
 {
-    let mut row = [0u64; 471];
-    lay(first, step, part, &mut row);
-    at_setting(k, weigh(Curve::YBar, &row), weigh(Curve::VPrime, &row))
+    let curves = observer.curves();
+    Sums::new(
+        weigh(curves.x, row),
+        weigh(curves.y, row),
+        weigh(curves.z, row),
+    )
 }
 
-// k · day + (1000 - k) · night. No sum is above 10 · 1,000,000 times a table's, which is at most 2 · 10^15, and no
-// divisor is either.
-pub fn at_setting(k: u32, day: Short, night: Short) -> Short
-    requires { (k ≤ 1000) × (short day ≤ 20000000000000000000000) × (short night ≤ 20000000000000000000000) }
-    ensures { short result ≡ k * short day + (1000 - k) * short night }
-{
-    short_times_plus(day, k, short_times_plus(night, 1000 - k, joined(0, 0)))
-}
-
-// W of each of the observer's three curves.
-pub fn colour_sums(observer: u32, first: u32, step: u32, part: &[u32]) -> Sums
-    requires { Begun 1000000 first step part.now }
-    ensures { LightSums observer first step part.now result }
+/// Those of a light.
+#[tactic(auto, using(crate::proofs::Rows::row_small, crate::proofs::Rows::row_sums_are))]
+pub fn light_sums(observer: Observer, light: &Light) -> Sums
+    ensures { result ≡ light_sums observer light.now.start light.now.step light.now.samples }
 {
     let mut row = [0u64; 471];
-    lay(first, step, part, &mut row);
+    light.lay(&mut row);
     row_sums(observer, &row)
 }
 
-// The four sums of the report: those of observer 2, and V′.
-#[derive(Clone, Copy)]
-pub struct FigureSums {
-    pub colour: Sums,
-    pub night: Short,
+/// An observer and a light: OBSERVER, STEP, START, COUNT, SAMPLE.
+#[tactic(auto, unfolding(crate::specs::Readings::seen_of))]
+pub fn seen(
+    observer: u32,
+    start: u32,
+    step: u32,
+    samples: &[u32],
+) -> Result<(Observer, Light), Refusal>
+    ensures { result ≡ seen_of observer start step samples.now }
+{
+    let observer = Observer::try_from(observer)?;
+    let light = Light::new(start, step, samples)?;
+    Ok((observer, light))
 }
 
-pub fn figure_sums(first: u32, step: u32, part: &[u32]) -> FigureSums
-    requires { Begun 1000000 first step part.now }
-    ensures { FigureSumsOf first step part.now result }
+/// The three sums that are seen.
+#[tactic(auto, unfolding(crate::specs::Readings::sums_of))]
+pub fn sums(observer: u32, start: u32, step: u32, samples: &[u32]) -> Result<Sums, Refusal>
+    ensures { result ≡ sums_of observer start step samples.now }
 {
-    let mut row = [0u64; 471];
-    lay(first, step, part, &mut row);
-    FigureSums {
-        colour: row_sums(2, &row),
-        night: weigh(Curve::VPrime, &row),
-    }
+    let (observer, light) = seen(observer, start, step, samples)?;
+    Ok(light_sums(observer, &light))
 }

@@ -8,9 +8,8 @@ use lib.ListN.{length, take, drop, get_or, replicate, length-replicate}
 use lib.Seq.{drop-cons, take_at, drop-drop, get_or-append-add}
 use Rattle.record.specs.Bits.{num, cut, bits_of_bytes, Bytes}
 use Rattle.record.specs.Format.{header_widths, body_widths, header_of, fields_of, samples_of, padding_of, length_of}
-use Rattle.record.specs.Leaf.{three_at, four_at, first_of, second_of}
 use Rattle.record.proofs.Rows.{widths_sum_replicate, length_cut, cut_append, digits, cut_digits, get_d_cut}
-use Rattle.record.proofs.Window.{number, front, window, three_number}
+use Rattle.record.proofs.Window.{number, front, window, three_at, three_number}
 
 pub header_digits : (bytes : List ℕ) → Bytes bytes → 3 ≤ length bytes → header_of bytes ≡ digits header_widths (three_at bytes 0)
 unfolding header_of
@@ -81,11 +80,15 @@ sample_window n k r t bytes h l e p q =
     ∙ window 3 (3 + 5 * k / 2) r 20 t bytes h (omega arith) (omega arith)
     ∙ ap (λ (x : ℕ). x / 2 ^ t % 2 ^ 20) (three_number (3 + 5 * k / 2) bytes (omega arith))
 
+-- the four bytes from a place on, as one number
+abbrev pub four_at : List ℕ → ℕ → ℕ
+four_at bytes at = get_or bytes at 0 * 16777216 + get_or bytes (at + 1) 0 * 65536 + get_or bytes (at + 2) 0 * 256 + get_or bytes (at + 3) 0
+
 -- the two samples of a pair, out of the number that four of its five bytes make, and the fifth
 pub sample_pair :
     (n j : ℕ) (bytes : List ℕ) → Bytes bytes → 2 * j + 1 < n → length bytes ≡ length_of n →
-    (first_of (four_at bytes (3 + 5 * j)) ≡ get_or (samples_of n bytes) (2 * j) 0)
-    × (second_of (four_at bytes (3 + 5 * j)) (get_or bytes (3 + 5 * j + 4) 0) ≡ get_or (samples_of n bytes) (2 * j + 1) 0)
+    (four_at bytes (3 + 5 * j) / 4096 ≡ get_or (samples_of n bytes) (2 * j) 0)
+    × (four_at bytes (3 + 5 * j) % 4096 * 256 + get_or bytes (3 + 5 * j + 4) 0 ≡ get_or (samples_of n bytes) (2 * j + 1) 0)
 sample_pair n j bytes h l e =
     let at = 3 + 5 * j in
     let here : 3 + 5 * (2 * j) / 2 ≡ at = omega arith in

@@ -1,62 +1,49 @@
--- A row that is stored to from its front on, and one into which values are stored in runs.
-use mathlib.Core.Path.{◌≡◌, refl, sym, ap, ap₂, ◌∙◌}
-use mathlib.Core.List.{List, [], ◌∷◌, ◌++◌, append_assoc}
-use Prim.Native.Nat.{ℕ, ◌+◌, ◌≤◌, ◌<◌}
-use native.Mathlib.Nat.{zero-add}
-use native.Mathlib.Numerals.{add-one}
-use native.Mathlib.Omega.{arith}
-use lib.ListN.{length, take, drop, get_or, set, length-append, length-take, length-drop}
-use lib.Seq.{paste, paste-suc, take-paste, drop-paste, drop-drop, take-add, take_at, drop_at, take_all, take-length, sets-eq}
-use Rattle.record.specs.Leaf.{stored}
+-- A row that is filled from its front on: what is done, and then what is left, is the whole.
+use Rattle.std.proofs.Common.{◌≡◌, ℕ, ◌+◌, ◌<◌, ◌≤◌, List, [], ◌∷◌, ◌++◌, length, get_or, take, drop, set, refl, arith, append_assoc}
+use Rattle.std.proofs.lemmas.List.{drop_more, take_more_set, take_all, length-set, append-nil}
 
--- the first j of a row, and behind them what was there before: one more store
-pub front_more :
-    (d s : List ℕ) (j : ℕ) → j < length s → length s ≤ length d → set (take j s ++ drop j d) j (get_or s j 0) ≡ take (j + 1) s ++ drop (j + 1) d
-front_more d s j h l = rw add-one (simp zero-add at (paste-suc d 0 s j 0 (omega arith) h))
+-- what is left begins with the element at its place
+pub next : (xs : List ℕ) (i n : ℕ) → n ≡ i + 1 → i < length xs → drop i xs ≡ get_or xs i 0 ∷ drop n xs
+next xs i n e h = rw (e, drop_more xs i 0 h)
 
--- a run of m more, which are the next ones of the row that is copied
-pub run_more :
-    (d s : List ℕ) (at n m : ℕ) (vs : List ℕ) → at ≤ length d → n ≤ length s → length vs ≡ m → take m (drop n s) ≡ vs →
-    stored (paste d at s n) (at + n) vs ≡ paste d at s (n + m)
-run_more d s at n m vs h l e f =
-    let place : at + n + length vs ≡ at + (n + m) = omega arith in
-    let back : drop (at + n + length vs) (paste d at s n) ≡ drop (at + (n + m)) d =
-    sym (drop-drop (length vs) (at + n) (paste d at s n))
-    ∙ ap (drop (length vs)) (drop-paste d at s n h l)
-    ∙ drop-drop (length vs) (at + n) d
-    ∙ ap (λ (k : ℕ). drop k d) place in
-    let front : take (at + n) (paste d at s n) ++ vs ≡ take at d ++ take (n + m) s =
-    ap (λ (x : List ℕ). x ++ vs) (take-paste d at s n h l)
-    ∙ append_assoc (take at d) (take n s) vs
-    ∙ ap (λ (x : List ℕ). take at d ++ x) (ap (λ (x : List ℕ). take n s ++ x) (sym f) ∙ sym (take-add n m s)) in
-    ap₂ (λ (x y : List ℕ). x ++ y) front back
+-- the first of what is left is stored
+stored :
+    (row : List ℕ) (i n v : ℕ) (left whole : List ℕ) → n ≡ i + 1 → i < length row → take i row ++ v ∷ left ≡ whole →
+    take n (set row i v) ++ left ≡ whole
+stored row i n v left whole e h done = rw (e, take_more_set row i v h, append_assoc) done
 
--- all of a row pasted is the row stored
-pub paste_all : (d s : List ℕ) (at n : ℕ) → n ≡ length s → paste d at s n ≡ stored d at s
-paste_all d s at n e =
-    ap₂ (λ (x : List ℕ) (k : ℕ). take at d ++ x ++ drop (at + k) d) (take_all n s (omega arith)) e
+pub ended : (row whole : List ℕ) (n : ℕ) → length row ≤ n → take n row ++ [] ≡ whole → row ≡ whole
+ended row whole n h done = rw (take_all n row h, append-nil) at done
 
--- values stored behind others are stored with them as one row
-pub stored_more :
-    (d : List ℕ) (at : ℕ) (vs ws : List ℕ) → at ≤ length d → stored (stored d at vs) (at + length vs) ws ≡ stored d at (vs ++ ws)
-stored_more d at vs ws h =
-    let front : stored d at vs ≡ paste d at (vs ++ ws) (length vs) =
-    ap (λ (x : List ℕ). take at d ++ x ++ drop (at + length vs) d) (sym (take_at vs ws (length vs) refl)) in
-    let rest : take (length ws) (drop (length vs) (vs ++ ws)) ≡ ws =
-    ap (take (length ws)) (drop_at vs ws (length vs) refl) ∙ take-length ws in
-    ap (λ (x : List ℕ). stored x (at + length vs) ws) front
-    ∙ run_more d (vs ++ ws) at (length vs) (length ws) ws h (simp length-append (omega arith)) refl rest
-    ∙ paste_all d (vs ++ ws) at (length vs + length ws) (sym (length-append vs ws))
+module _ (row : List ℕ) (i : ℕ) (whole : List ℕ) where
+  pub stored_two :
+      (n a b : ℕ) (left : List ℕ) → n ≡ i + 2 → i + 2 ≤ length row → take i row ++ a ∷ b ∷ left ≡ whole →
+      take n (set (set row i a) (i + 1) b) ++ left ≡ whole
+  stored_two n a b left e h done =
+      stored (set row i a) (i + 1) n b left whole (omega arith) (simp length-set (omega arith))
+      (stored row i (i + 1) a (b ∷ left) whole refl (omega arith) done)
 
-pub stored_length : (d : List ℕ) (at : ℕ) (vs : List ℕ) → at + length vs ≤ length d → length (stored d at vs) ≡ length d
-stored_length d at vs h = simp (length-append, length-take, length-drop) (omega arith)
+  pub stored_five :
+      (n a b c d e : ℕ) (left : List ℕ) → n ≡ i + 5 → i + 5 ≤ length row → take i row ++ a ∷ b ∷ c ∷ d ∷ e ∷ left ≡ whole →
+      take n (set (set (set (set (set row i a) (i + 1) b) (i + 2) c) (i + 3) d) (i + 4) e) ++ left ≡ whole
+  stored_five n a b c d e left q h done =
+      let two = set (set row i a) (i + 1) b in
+      let four = set (set two (i + 2) c) (i + 3) d in
+      stored four (i + 4) n e left whole (omega arith) (simp length-set (omega arith))
+      (stored (set two (i + 2) c) (i + 3) (i + 4) d (e ∷ left) whole (omega arith) (simp length-set (omega arith))
+      (stored two (i + 2) (i + 3) c (d ∷ e ∷ left) whole (omega arith) (simp length-set (omega arith))
+      (stored (set row i a) (i + 1) (i + 2) b (c ∷ d ∷ e ∷ left) whole (omega arith) (simp length-set (omega arith))
+      (stored row i (i + 1) a (b ∷ c ∷ d ∷ e ∷ left) whole refl (omega arith) done))))
 
--- and one value behind k others
-pub store_more :
-    (d : List ℕ) (at k : ℕ) (vs : List ℕ) (v : ℕ) → length vs ≡ k → at + k < length d →
-    set (stored d at vs) (at + k) v ≡ stored d at (vs ++ (v ∷ []))
-store_more d at k vs v e h =
-    let kept = stored_length d at vs (omega arith) in
-    sets-eq (v ∷ []) (stored d at vs) (at + k) (omega arith)
-    ∙ ap (λ (j : ℕ). stored (stored d at vs) (at + j) (v ∷ [])) (sym e)
-    ∙ stored_more d at vs (v ∷ []) (omega arith)
+  pub stored_last : (a : ℕ) → i + 1 ≡ length row → take i row ++ a ∷ [] ≡ whole → set row i a ≡ whole
+  stored_last a h done =
+      ended (set row i a) whole (i + 1) (simp length-set (omega arith)) (stored row i (i + 1) a [] whole refl (omega arith) done)
+
+  pub stored_last_three :
+      (a b c : ℕ) → i + 3 ≡ length row → take i row ++ a ∷ b ∷ c ∷ [] ≡ whole → set (set (set row i a) (i + 1) b) (i + 2) c ≡ whole
+  stored_last_three a b c h done =
+      let two = set (set row i a) (i + 1) b in
+      ended (set two (i + 2) c) whole (i + 3) (simp length-set (omega arith))
+      (stored two (i + 2) (i + 3) c [] whole (omega arith) (simp length-set (omega arith))
+      (stored (set row i a) (i + 1) (i + 2) b (c ∷ []) whole (omega arith) (simp length-set (omega arith))
+      (stored row i (i + 1) a (b ∷ c ∷ []) whole refl (omega arith) done)))

@@ -4,10 +4,9 @@ use mathlib.Core.List.{List, [], ◌∷◌, ◌++◌, append_assoc}
 use Prim.Native.Nat.{ℕ, zero, suc, ◌+◌, ◌*◌, ◌/◌, ◌%◌, ◌^◌, ◌≤◌}
 use native.Mathlib.Nat.{mul-suc, add-zero}
 use native.Mathlib.Omega.{arith}
-use lib.ListN.{length, take, drop, length-drop}
+use lib.ListN.{length, take, drop, get_or, length-drop}
 use lib.Seq.{drop-append-add, drop-append-le, take-append-le, drop-drop, drop-nil, get_or-drop}
 use Rattle.record.specs.Bits.{bits_of, num, pack, bytewise, bits_of_bytes, Bytes}
-use Rattle.record.specs.Leaf.{three_at}
 use Rattle.record.proofs.Bits.{length_bits_of, join, field}
 use Rattle.record.proofs.Rows.{Fit, none, more, widths_sum, widths_sum_replicate, whole, whole_lt}
 
@@ -73,7 +72,10 @@ window m q r k t bytes h l e =
     ∙ ap num (take-append-le k (drop r (bits_of (r + (k + t)) v)) rest behind)
     ∙ field r k t v
 
--- three bytes as the code takes them
+-- the three bytes from a place on, as one number
+abbrev pub three_at : List ℕ → ℕ → ℕ
+three_at bytes at = get_or bytes at 0 * 65536 + get_or bytes (at + 1) 0 * 256 + get_or bytes (at + 2) 0
+
 three_front : (bytes : List ℕ) → 3 ≤ length bytes → number 3 bytes ≡ three_at bytes 0
 three_front [] l = absurd (omega arith)
 three_front (x ∷ []) l = absurd (omega arith)

@@ -1,8 +1,8 @@
 -- The rules' number, place and values of reading and of writing a record.
-use Rattle.std.specs.Prelude.{[], ◌∷◌, ℕ}
-use Rattle.grid.specs.Said.{Said, given, refused_with}
-use Rattle.record.specs.declared.RecordRead.{RecordRead}
-use Rattle.record.specs.declared.RecordWritten.{RecordWritten}
+use Rattle.std.specs.Prelude.{Result, [], ◌∷◌, ℕ}
+use Rattle.grid.specs.declared.refusals.Refusal.{Refusal}
+use Rattle.grid.specs.Said.{Said, given, said}
+use Rattle.record.specs.declared.Header.{Header}
 
 -- a record was read, with this start, step and count
 abbrev pub read_as : ℕ → ℕ → ℕ → Said
@@ -12,10 +12,8 @@ read_as a s n = given (a ∷ s ∷ n ∷ []) []
 abbrev pub wrote : ℕ → Said
 wrote n = given (n ∷ []) []
 
-abbrev pub said_read : RecordRead → Said
-said_read (RecordRead.Read h) = read_as h.start h.step h.count
-said_read (RecordRead.Refused r) = refused_with r
+abbrev pub said_read : Result Header Refusal → Said
+said_read = said (λ h. read_as h.start h.step h.count)
 
-abbrev pub said_written : RecordWritten → Said
-said_written (RecordWritten.Written n) = wrote n
-said_written (RecordWritten.Refused r) = refused_with r
+abbrev pub said_written : Result ℕ Refusal → Said
+said_written = said wrote

@@ -1,42 +1,33 @@
 // The record's header: three bytes that are one number, and the fields in it.
-ghost use Rattle.std.specs.Prelude.{◌≡◌, ◌≤◌, ◌<◌};
-ghost use Rattle.grid.specs.Check.{refusal};
-ghost use Rattle.record.specs.Leaf.{header_answer};
-ghost use Rattle.record.specs.Bits.{bits_of, pack};
-ghost use Rattle.record.specs.Format.{header_fields, header_widths, step_of_code, code_of};
+ghost use Rattle.std.specs.Prelude.{◌≡◌, ◌≤◌, ◌<◌, IfOk};
+ghost use Rattle.record.specs.Leaf.{header_answer, header_from, header_bytes};
+ghost use Rattle.record.specs.Format.{step_of_code, code_of};
 
-use crate::numbers::three;
-use crate::{Header, RecordRead};
-use grid::refusals::{EDITION, LENGTH, RESERVED};
-use grid::{Check, Refusal};
+use crate::Header;
+use grid::{Kind, Refusal, check_grid, require};
 
 // LENGTH where under 3 bytes, EDITION, RESERVED, START, COUNT.
-pub fn read_header(bytes: &[u8]) -> RecordRead
-    ensures { result ≡ header_answer bytes.now }
+#[tactic(auto, unfolding(crate::specs::Answer::header_check))]
+pub fn read_header(bytes: &[u8]) -> Result<Header, Refusal>
+    ensures value { result ≡ header_answer bytes.now }
+    ensures count { IfOk result (λ header. (1 ≤ header.count) × (header.count ≤ 531)) }
 {
-    if bytes.len() < 3 {
-        return refused(LENGTH);
-    }
-    let number = three(bytes, 0);
-    if number / 1048576 != 1 {
-        return refused(EDITION);
-    }
-    if number % 2 != 0 {
-        return refused(RESERVED);
-    }
+    require(3 <= bytes.len(), Kind::Length)?;
+    header_from(u32::from_be_bytes([0, bytes[0], bytes[1], bytes[2]]))
+}
+
+// EDITION, RESERVED, START, COUNT, of the number that a header's bytes make.
+fn header_from(number: u32) -> Result<Header, Refusal>
+    ensures value { result ≡ header_from number }
+    ensures count { IfOk result (λ header. (1 ≤ header.count) × (header.count ≤ 531)) }
+{
+    require(number / 1048576 == 1, Kind::Edition)?;
+    require(number % 2 == 0, Kind::Reserved)?;
     let start = 300 + number / 2048 % 128;
     let step = step_of(number / 262144 % 4);
     let count = number / 2 % 1024;
-    match grid::check_grid(start, step, count as usize) {
-        Check::Fine => RecordRead::Read(Header { start, step, count }),
-        Check::Refused(refusal) => RecordRead::Refused(refusal),
-    }
-}
-
-fn refused(number: u32) -> RecordRead
-    ensures { result ≡ RecordRead.Refused (refusal number 0) }
-{
-    RecordRead::Refused(Refusal { number, place: 0 })
+    check_grid(start, step, count as usize)?;
+    Ok(Header { start, step, count })
 }
 
 fn step_of(code: u32) -> u32
@@ -61,10 +52,12 @@ fn code_of(step: u32) -> u32
     }
 }
 
-// The number whose bits are the header's fields.
-pub fn header_number(start: u32, step: u32, count: usize) -> u32
+// The number whose bits are the header's fields, as bytes.
+pub fn header_bytes(start: u32, step: u32, count: usize) -> [u8; 3]
     requires { (300 ≤ start) × (start ≤ 380) × (count < 1024) }
-    ensures { bits_of 24 result ≡ pack header_widths (header_fields start step count) }
+    ensures { result ≡ header_bytes start step count }
 {
-    1048576 + code_of(step) * 262144 + (start - 300) * 2048 + count as u32 * 2
+    let number = 1048576 + code_of(step) * 262144 + (start - 300) * 2048 + count as u32 * 2;
+    let [_, first, second, third] = number.to_be_bytes();
+    [first, second, third]
 }

@@ -1,14 +1,11 @@
 -- A text ends with a newline, since its last line does.
-use mathlib.Core.Path.{◌≡◌, refl, ap, ◌∙◌}
-use mathlib.Core.List.{List, ◌++◌}
-use Prim.Native.Nat.{ℕ, ◌+◌, ◌-◌, ◌≤◌}
-use native.Mathlib.Omega.{arith}
-use lib.ListN.{length, drop, length-append}
-use lib.Seq.{drop-append-add}
-use Rattle.answers.specs.declared.XyAnswer.{XyAnswer}
-use Rattle.readings.specs.declared.figures.FiguresAnswer.{FiguresAnswer}
-use Rattle.page.specs.Text.{ascii}
-use Rattle.page.specs.Report.{newline, line, coordinate, numbered, colour_lines, reading_lines, figure_lines, text_of}
+use Rattle.std.proofs.Common.{◌≡◌, refl, ap, ◌∙◌, Result, Ok, Err, List, ◌++◌, ℕ, ◌+◌, ◌-◌, ◌≤◌, length, drop, codes, arith}
+use Rattle.std.proofs.Math.Seq.{drop-append-add}
+use Rattle.std.proofs.lemmas.List.{length-append}
+use Rattle.grid.specs.declared.refusals.Refusal.{Refusal}
+use Rattle.answers.specs.declared.Xy.{Xy}
+use Rattle.readings.specs.declared.figures.ReportFigures.{ReportFigures}
+use Rattle.page.specs.Report.{newline, line, coordinate, numbered, colour_lines, reading_lines, text_of}
 
 pub record Ends (text : List ℕ) : Type 0 where
   pub some : 1 ≤ length text
@@ -24,15 +21,12 @@ behind front {text} e =
     }
 
 line_ends : (word shown : List ℕ) → Ends (line word shown)
-unfolding line
 line_ends word shown = behind (word ++ shown) (record { some = omega arith; ended = refl })
 
-colour_ends : (xy : XyAnswer) → Ends (colour_lines xy)
-unfolding colour_lines
-colour_ends (XyAnswer.Value v) = behind (line (ascii "x ") (coordinate v.x)) (line_ends (ascii "y ") (coordinate v.y))
-colour_ends (XyAnswer.Refused dark) = behind (line (ascii "x ") (ascii "-")) (line_ends (ascii "y ") (ascii "-"))
+colour_ends : (xy : Result Xy Refusal) → Ends (colour_lines xy)
+colour_ends (Ok v) = behind (line (codes "x ") (coordinate v.x)) (line_ends (codes "y ") (coordinate v.y))
+colour_ends (Err dark) = behind (line (codes "x ") (codes "-")) (line_ends (codes "y ") (codes "-"))
 
-pub text_ends : (answer : FiguresAnswer) → Ends (text_of answer)
-unfolding text_of figure_lines
-text_ends (FiguresAnswer.Value f) = behind (reading_lines f) (colour_ends f.xy)
-text_ends (FiguresAnswer.Refused r) = line_ends (ascii "refused ") (numbered r)
+pub text_ends : (answer : Result ReportFigures Refusal) → Ends (text_of answer)
+text_ends (Ok f) = behind (reading_lines f) (colour_ends f.xy)
+text_ends (Err r) = line_ends (codes "refused ") (numbered r)

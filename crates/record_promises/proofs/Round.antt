@@ -9,8 +9,8 @@ use native.Mathlib.Omega.{arith}
 use borrow.Author.Tests.{le-leb}
 use lib.ListN.{length, take, drop, get_or, replicate, length-replicate}
 use lib.Seq.{take_at, get_or-append-add}
-use Rattle.grid.specs.Check.{is_step, light_check}
-use Rattle.grid.specs.declared.Check.TheVariants.{Fine}
+use Rattle.grid.specs.declared.refusals.Kind.TheVariants.{Sample}
+use Rattle.grid.specs.Check.{Fine, is_step, light_check, spectrum_check}
 use Rattle.grid.proofs.Accepted.{step_cases}
 use Rattle.record.specs.Bits.{pack, cut, bytewise, bits_of_bytes, Bytes}
 use Rattle.record.specs.Format.{header_widths, body_widths, header_fields, body_fields, code_of, step_of_code, length_of, record_of, header_of, fields_of, start_of, step_of, count_of, samples_of, padding_of}
@@ -18,7 +18,7 @@ use Rattle.record.specs.Answer.{record_check, write_answer, bytes_after}
 use Rattle.record.specs.Said.{wrote, said_written}
 use Rattle.record.proofs.Rows.{Fit, more, widths_sum, widths_sum_append, widths_sum_replicate, fit_append, fit_row, fit_zeros, fit_cut, packed_bits, length_cut, regroup}
 use Rattle.record.proofs.Fields.{length_header, fields_split, body_split, samples_cut, samples_length, padding_cut, five_halves}
-use Rattle.grid.proofs.Light.{grid_fine, samples_fine, within, on_grid}
+use Rattle.grid.proofs.Light.{grid_fine, limit_fine, within, on_grid}
 use Rattle.record.proofs.Accepted.{fit_header}
 use Rattle.record.proofs.Reading.{record_fine, accept}
 
@@ -105,9 +105,9 @@ module _ (a s : ℕ) (xs : List ℕ) (fine : light_check a s xs ≡ Fine) where
         long = rw length_record (omega arith);
         edition = ap (λ (h : List ℕ). get_or h 0 0) header_back;
         reserved = ap (λ (h : List ℕ). get_or h 4 0) header_back;
-        grid = rw (start_back, step_back, count_back) (grid_fine a s xs fine);
+        grid = rw (start_back, step_back, count_back) (grid_fine Sample 1000000 a s xs fine);
       }
-      (rw count_back record { whole = length_record a s xs; padding = padding_back; samples = rw samples_back (samples_fine a s xs fine) })
+      (rw count_back record { whole = length_record a s xs; padding = padding_back; samples = rw samples_back (limit_fine Sample 1000000 a s xs fine) })
 
   pub written :
       (bytes : List ℕ) → length_of (length xs) ≤ length bytes →
@@ -130,7 +130,7 @@ second (more h (more l t)) = l
 -- an accepted record
 module _ (bytes : List ℕ) (fine : record_check bytes ≡ Fine) where
   pub spectrum_accepted : light_check (start_of bytes) (step_of bytes) (samples_of (count_of bytes) bytes) ≡ Fine
-  unfolding light_check
+  unfolding spectrum_check
   spectrum_accepted =
       let n = count_of bytes in
       let e = samples_length n bytes in

@@ -1,10 +1,8 @@
 -- What is promised of pages: none is blank or long, whatever the bytes are; and what the page of a dark room and the example's are.
-use Rattle.std.specs.Prelude.{◌≡◌, List, ◌++◌, ℕ, ◌-◌, ◌≤◌, length, drop, replicate}
-use Rattle.grid.specs.declared.Check.TheVariants.{Fine}
-use Rattle.grid.specs.Check.{grid_check}
+use Rattle.std.specs.Prelude.{◌≡◌, List, ◌++◌, ℕ, ◌-◌, ◌≤◌, length, drop, replicate, codes}
+use Rattle.grid.specs.Check.{Fine, grid_check}
 use Rattle.record.specs.Format.{record_of}
 use Rattle.record.specs.Said.{wrote}
-use Rattle.page.specs.Text.{ascii}
 use Rattle.page.specs.Report.{report_of, newline}
 use Rattle.page.specs.Answer.{report_answer}
 use Rattle.page.specs.Said.{said_reported}
@@ -20,13 +18,13 @@ pub record Page : Type 0 where
 -- the page of a room with no light: five zeros, and a dash for x and for y
 abbrev pub dark_text : List ℕ
 dark_text =
-    ascii "photopic 0\n"
-    ++ ascii "scotopic 0\n"
-    ++ ascii "X 0\n"
-    ++ ascii "Y 0\n"
-    ++ ascii "Z 0\n"
-    ++ ascii "x -\n"
-    ++ ascii "y -\n"
+    codes "photopic 0\n"
+    ++ codes "scotopic 0\n"
+    ++ codes "X 0\n"
+    ++ codes "Y 0\n"
+    ++ codes "Z 0\n"
+    ++ codes "x -\n"
+    ++ codes "y -\n"
 
 -- whatever the accepted grid
 pub record Dark : Type 0 where
@@ -35,13 +33,13 @@ pub record Dark : Type 0 where
 -- the rules' example, line by line
 abbrev pub example_text : List ℕ
 example_text =
-    ascii "photopic 40980\n"
-    ++ ascii "scotopic 963972\n"
-    ++ ascii "X 198617\n"
-    ++ ascii "Y 40980\n"
-    ++ ascii "Z 1140066\n"
-    ++ ascii "x 0.14396\n"
-    ++ ascii "y 0.02970\n"
+    codes "photopic 40980\n"
+    ++ codes "scotopic 963972\n"
+    ++ codes "X 198617\n"
+    ++ codes "Y 40980\n"
+    ++ codes "Z 1140066\n"
+    ++ codes "x 0.14396\n"
+    ++ codes "y 0.02970\n"
 
 pub record ExamplePage : Type 0 where
   pub page : report_of (record_of 380 1 example_samples) ≡ example_text

@@ -1,9 +1,8 @@
 -- What is promised of records: accepted spectra and accepted records are one to one.
 use Rattle.std.specs.Prelude.{◌≡◌, List, [], ◌∷◌, ◌++◌, ℕ, ◌≤◌, length, take, drop, replicate}
-use Rattle.grid.specs.declared.Check.TheVariants.{Fine}
 use Rattle.record.specs.Bits.{Bytes}
 use Rattle.record.specs.Format.{length_of, record_of}
-use Rattle.grid.specs.Check.{light_check}
+use Rattle.grid.specs.Check.{Fine, light_check}
 use Rattle.record.specs.Answer.{read_answer, row_after, write_answer, bytes_after}
 use Rattle.record.specs.Said.{read_as, wrote, said_read, said_written}
 

@@ -3,14 +3,15 @@ use mathlib.Core.Path.{◌≡◌, refl, ◌∙◌, sym, ap, ap₂}
 use mathlib.Core.List.{List, ◌∷◌}
 use mathlib.Core.Bool.{Bool, true, false}
 use Prim.Native.Nat.{ℕ, zero, suc, ◌+◌, ◌*◌, ◌-◌, ◌/◌, ◌≤◌, ◌<◌}
-use native.Mathlib.Nat.{div-mul-le_self, lt-div-mul-add, lt_of_mul-lt-mul_left, zero-div, mul-zero, add-zero}
+use native.Mathlib.Nat.{mul-le-mul_left, div-mul-le_self, lt-div-mul-add, lt_of_mul-lt-mul_left, zero-div, mul-zero, add-zero}
 use native.Mathlib.Omega.{arith}
 use borrow.Author.Tests.{leb-true, leb-false}
-use lib.ListN.{length, get_or, drop, length-drop}
+use lib.ListN.{length, get_or, set, drop, length-drop}
 use lib.Seq.{ext_get_or}
 use lib.Dec.{leb}
 use Rattle.grid.specs.Check.{last_of}
-use Rattle.grid.proofs.Accepted.{OnGrid}
+use Rattle.grid.specs.Accepted.{OnGrid}
+use Rattle.grid.proofs.Filled.{fill_more}
 use Rattle.spectrum.specs.Line.{line_at, T}
 use Rattle.spectrum.specs.Lay.{listed, row_of, Part, AtEnd, LaidTo}
 use Rattle.spectrum.proofs.EndRule.{first_carried, last_carried}
@@ -36,16 +37,26 @@ module _ (a s : ℕ) (xs : List ℕ) where
       let above : 360 + k - a ≡ s * i + d = omega arith in
       sym (T_measured a s xs (360 + k) (omega arith) l ∙ (ap (line_at s xs) above ∙ line_at_lem s xs i d h))
 
-  -- below the measured range, and from the last sample on
-  pub low_end : (high : ℕ) → high ≤ a - 360 → AtEnd a s xs 0 high
-  low_end high h q p l =
-      T_below a s xs (360 + q) (omega arith) ∙ first_carried a s xs (360 + q) (omega arith) ∙ sym (first_carried a s xs 360 (omega arith))
+  -- one place more on the line above sample i
+  pub walk_more :
+      (i d n : ℕ) (row : List ℕ) → length xs ≡ n → Part a s n → i + 1 < n → d < s → 360 ≤ a + s * i + d →
+      LaidTo a s xs row (a + s * i + d - 360) →
+      LaidTo a s xs (set row (a + s * i + d - 360) ((s - d) * get_or xs i 0 + d * get_or xs (i + 1) 0)) (a + s * i + (d + 1) - 360)
+  walk_more i d n row long part inside below low laid =
+      let k = a + s * i + d - 360 in
+      let up : s * (i + 1) ≤ s * (n - 1) = mul-le-mul_left s (omega arith) in
+      let last_high = part.last_high in
+      let measured : 360 + k ≤ last_of a s (length xs) = rw long (omega arith) in
+      let next : a + s * i + (d + 1) - 360 ≡ k + 1 = omega arith in
+      rw next (fill_more 471 _ row k _ laid (omega arith) (walk_at i d k (omega arith) below measured))
 
-  pub high_end : (low high : ℕ) → 0 < s → last_of a s (length xs) ≤ 360 + low → AtEnd a s xs low high
-  high_end low high pos h q p l =
-      T_from_last a s xs (360 + q) pos (omega arith)
-      ∙ last_carried a s xs (360 + q) (omega arith)
-      ∙ sym (last_carried a s xs (360 + low) (omega arith))
+  -- below the measured range, and from the last sample on
+  pub low_end : (high : ℕ) → high ≤ a - 360 → AtEnd a s xs 0 0 high
+  low_end high h q p l = T_below a s xs (360 + q) (omega arith) ∙ first_carried a s xs (360 + q) (omega arith)
+
+  pub high_end : (i low high : ℕ) → i ≡ length xs - 1 → 0 < s → last_of a s (length xs) ≤ 360 + low → AtEnd a s xs i low high
+  high_end i low high e pos h q p l =
+      rw e (T_from_last a s xs (360 + q) pos (omega arith) ∙ last_carried a s xs (360 + q) (omega arith))
 
   pub lay_all : (row : List ℕ) → LaidTo a s xs row 471 → row ≡ row_of a s xs
   unfolding row_of

@@ -4,4 +4,5 @@ pub mod Measured
 pub mod Constant
 pub mod Lay
 pub mod Light
-pub mod Begin
+pub mod Parts
+pub mod Given

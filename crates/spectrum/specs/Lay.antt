@@ -1,8 +1,8 @@
 -- T as a row, what a part must be to be laid, and how far it is laid: no promise to a caller rests on the reading of this.
-use Rattle.std.specs.Prelude.{◌≡◌, true, List, [], ◌∷◌, ℕ, zero, suc, ◌+◌, ◌*◌, ◌-◌, ◌≤◌, ◌<◌}
+use Rattle.std.specs.Prelude.{◌≡◌, true, List, [], ◌∷◌, ℕ, zero, suc, ◌+◌, ◌*◌, ◌-◌, ◌≤◌, ◌<◌, slice_index}
 use Rattle.grid.specs.Check.{is_step}
 use Rattle.grid.specs.Filled.{FilledTo}
-use Rattle.spectrum.specs.Line.{end_rule, T}
+use Rattle.spectrum.specs.Line.{T}
 
 -- the first n values of f
 unfoldable pub listed : ℕ → (ℕ → ℕ) → List ℕ
@@ -24,9 +24,9 @@ pub record Part (a s n : ℕ) : Type 0 where
   pub last_low : 780 ≤ a + s * (n - 1)
   pub last_high : a + s * (n - 1) ≤ 830
 
--- at the places from low to below high T is what the end rule has at the first of them
-abbrev pub AtEnd : ℕ → ℕ → List ℕ → ℕ → ℕ → Type 0
-AtEnd a s xs low high = (q : ℕ) → low ≤ q → q < high → T a s xs (360 + q) ≡ end_rule a s xs (360 + low)
+-- at the places from low to below high T is s times sample i
+abbrev pub AtEnd : ℕ → ℕ → List ℕ → ℕ → ℕ → ℕ → Type 0
+AtEnd a s xs i low high = (q : ℕ) → low ≤ q → q < high → T a s xs (360 + q) ≡ s * slice_index xs i
 
 -- of a row of 471 places those below k hold T
 abbrev pub LaidTo : ℕ → ℕ → List ℕ → List ℕ → ℕ → Type 0

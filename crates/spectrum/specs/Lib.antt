@@ -1,4 +1,4 @@
 -- Definitions of the crate `spectrum`.
+pub mod Spectrum
 pub mod Line
 pub mod Lay
-pub mod Begin

@@ -14,27 +14,27 @@ use Rattle.tables.specs.Tables.{table}
 use Rattle.tables.specs.Curves.{weight_of}
 use Rattle.tables.specs.Column.{largest}
 use Rattle.tables.specs.Columns.{units}
-use Rattle.tables.specs.Units.{unit_at}
-use Rattle.tables.specs.Held.{counted_from, in_units, value_of, EndsInOrder, Counts, Held}
+use Rattle.tables.specs.Units.{unit_at, in_order}
+use Rattle.tables.specs.Held.{counted_from, in_units, value_of, Counts, Held}
 use Rattle.tables.specs.declared.Curve.{Curve}
-use Rattle.tables.specs.declared.units.Units.{Units}
+use Rattle.tables.specs.declared.units.Stretch.{Stretch}
 use Rattle.tables.proofs.Each.{each, each_most}
 use Rattle.tables.proofs.Largest.{at_most_largest}
 use Rattle.tables.proofs.Columns.{column}
 use Rattle.tables.proofs.Sums.{curve_sum}
 
 -- a list from place k on, each entry at its full value
-unfoldable values_from : ℕ → Units → List ℕ → List ℕ
+unfoldable values_from : ℕ → List Stretch → List ℕ → List ℕ
 values_from k u [] = []
 values_from k u (x ∷ xs) = unit_at u k * x ∷ values_from (suc k) u xs
 
-value_at : (j k : ℕ) (u : Units) (xs : List ℕ) → get_or (values_from j u xs) k 0 ≡ unit_at u (j + k) * get_or xs k 0
+value_at : (j k : ℕ) (u : List Stretch) (xs : List ℕ) → get_or (values_from j u xs) k 0 ≡ unit_at u (j + k) * get_or xs k 0
 unfolding values_from
 value_at j k u [] = sym (mul-zero (unit_at u (j + k)))
 value_at j zero u (x ∷ xs) = ap (λ q. unit_at u q * x) (omega arith)
 value_at j (suc k) u (x ∷ xs) = value_at (suc j) k u xs ∙ ap (λ q. unit_at u q * get_or xs k 0) (omega arith)
 
-counted_length : (k : ℕ) (u : Units) (xs : List ℕ) → length (counted_from k u xs) ≡ length xs
+counted_length : (k : ℕ) (u : List Stretch) (xs : List ℕ) → length (counted_from k u xs) ≡ length xs
 unfolding counted_from
 counted_length k u [] = refl
 counted_length k u (x ∷ xs) = ap suc (counted_length (suc k) u xs)
@@ -51,13 +51,6 @@ largest_held = each_most (λ c. largest (in_units c)) 4294967295 refl
 sum_held : (c : Curve) → sum_of (in_units c) ≤ 1000000000000
 unfolding sum_of in_units counted_from unit_at table
 sum_held = each_most (λ c. sum_of (in_units c)) 1000000000000 refl
-
-ends_in_order : (c : Curve) → EndsInOrder (units c)
-ends_in_order c = record {
-  first = leb-true _ _ (each (λ c. leb (units c).first.end (units c).second.end) (λ c. true) refl c);
-  second = leb-true _ _ (each (λ c. leb (units c).second.end (units c).third.end) (λ c. true) refl c);
-  third = each_most (λ c. (units c).third.end) 471 refl c;
-}
 
 pub weighs : (c : Curve) (k : ℕ) → value_of (units c) (in_units c) k ≡ weight_of c k
 weighs c k =
@@ -76,7 +69,7 @@ counts c =
 pub held : (c : Curve) → Held (units c) (in_units c)
 held c =
     record {
-      in_order = ends_in_order c;
+      stretched = each (λ c. in_order 0 (units c)) (λ c. true) refl c;
       counts = counts c;
       full = rw (total_ext 471 (value_of (units c) (in_units c)) (weight_of c) (λ k h. weighs c k)) (curve_sum c);
     }

@@ -4,5 +4,5 @@ pub mod Largest
 pub mod Columns
 pub mod Lit
 pub mod Sums
-pub mod UnitAt
 pub mod Held
+pub mod Asked

@@ -1,11 +1,11 @@
 -- What is computed over each table: written by tools/tables, and proved.
 use Rattle.std.specs.Prelude.{List, [], ◌∷◌, ℕ}
-use Rattle.tables.specs.Units.{stretch, stretches}
+use Rattle.tables.specs.Units.{stretch}
 use Rattle.tables.specs.declared.Curve.{Curve}
 use Rattle.tables.specs.declared.Curve.TheVariants.{XBar, YBar, ZBar, XBar10, YBar10, ZBar10, VPrime, VF, VF10}
 use Rattle.tables.specs.declared.Illuminant.{Illuminant}
 use Rattle.tables.specs.declared.Illuminant.TheVariants.{A, D65}
-use Rattle.tables.specs.declared.units.Units.{Units}
+use Rattle.tables.specs.declared.units.Stretch.{Stretch}
 
 -- every curve
 abbrev pub curves : List Curve
@@ -67,13 +67,13 @@ lit_sum D65 VF = 11170759465880331282450
 lit_sum D65 VF10 = 11819363753161816257940
 
 -- the units in which the code counts a curve's entries, stretch by stretch
-abbrev pub units : Curve → Units
-units XBar = stretches (stretch 190 1000) (stretch 375 10000) (stretch 471 10) 1
-units YBar = stretches (stretch 61 10) (stretch 361 10000) (stretch 459 10) 1
-units ZBar = stretches (stretch 57 1000) (stretch 246 10000) (stretch 471 10) 1
-units XBar10 = stretches (stretch 33 10) (stretch 410 10000) (stretch 471 1) 1
-units YBar10 = stretches (stretch 45 10) (stretch 405 10000) (stretch 471 1) 1
-units ZBar10 = stretches (stretch 27 10) (stretch 471 10000) (stretch 471 1) 1
-units VPrime = stretches (stretch 404 10000) (stretch 471 1) (stretch 471 1) 1
-units VF = stretches (stretch 146 1000) (stretch 360 10000) (stretch 464 10) 1
-units VF10 = stretches (stretch 137 1000) (stretch 358 10000) (stretch 463 10) 1
+abbrev pub units : Curve → List Stretch
+units XBar = stretch 190 1000 ∷ stretch 375 10000 ∷ stretch 471 10 ∷ stretch 471 1 ∷ []
+units YBar = stretch 61 10 ∷ stretch 361 10000 ∷ stretch 459 10 ∷ stretch 471 1 ∷ []
+units ZBar = stretch 57 1000 ∷ stretch 246 10000 ∷ stretch 471 10 ∷ stretch 471 1 ∷ []
+units XBar10 = stretch 33 10 ∷ stretch 410 10000 ∷ stretch 471 1 ∷ stretch 471 1 ∷ []
+units YBar10 = stretch 45 10 ∷ stretch 405 10000 ∷ stretch 471 1 ∷ stretch 471 1 ∷ []
+units ZBar10 = stretch 27 10 ∷ stretch 471 10000 ∷ stretch 471 1 ∷ stretch 471 1 ∷ []
+units VPrime = stretch 404 10000 ∷ stretch 471 1 ∷ stretch 471 1 ∷ stretch 471 1 ∷ []
+units VF = stretch 146 1000 ∷ stretch 360 10000 ∷ stretch 464 10 ∷ stretch 471 1 ∷ []
+units VF10 = stretch 137 1000 ∷ stretch 358 10000 ∷ stretch 463 10 ∷ stretch 471 1 ∷ []

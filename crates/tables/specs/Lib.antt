@@ -1,5 +1,6 @@
 -- Definitions of the crate `tables`.
 pub mod Tables
+pub mod Settings
 pub mod Curves
 pub mod Column
 pub mod Units

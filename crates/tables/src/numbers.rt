@@ -1,16 +1,8 @@
-// The tables as the code reads them, from 360 to 830 nm: written by tools/tables. A table is built anew where it is asked for;
-// each has a function of its own, since one match over the numbers would look up every entry by the curve.
-ghost use Rattle.std.specs.Prelude.{◌≡◌};
-ghost use Rattle.tables.specs.Tables.{powers};
-ghost use Rattle.tables.specs.Held.{in_units};
-ghost use Rattle.tables.specs.declared.Curve.{Curve};
-ghost use Rattle.tables.specs.declared.Illuminant.{Illuminant};
-
-use crate::Illuminant;
-use crate::units::{Stretch, Units};
+// The tables as the code reads them, from 360 to 830 nm, each a static that is read in place: written by tools/tables.
+use crate::units::Stretch;
 
 // x̄ of the 1931 observer, at 10^13 to one, counted in the unit of each stretch.
-const X_BAR: [u64; 471] = [
+pub static X_BAR: [u64; 471] = [
     1299000, 1458470, 1638021, 1840037, 2066902, 2321000, 2607280, 2930750, 3293880, 3699140,
     4149000, 4641587, 5189860, 5818540, 6552347, 7416000, 8450296, 9645268, 10949490, 12311540,
     13680000, 15020500, 16423280, 18023820, 19957570, 22360000, 25353850, 28926030, 33008290,
@@ -69,27 +61,21 @@ const X_BAR: [u64; 471] = [
     1341977, 1251141,
 ];
 
-pub const X_BAR_UNITS: Units = Units {
-    first: Stretch {
+pub static X_BAR_STRETCHES: [Stretch; 4] = [
+    Stretch {
         end: 190,
         unit: 1000,
     },
-    second: Stretch {
+    Stretch {
         end: 375,
         unit: 10000,
     },
-    third: Stretch { end: 471, unit: 10 },
-    rest: 1,
-};
-
-pub fn x_bar() -> [u64; 471]
-    ensures { result ≡ in_units Curve.XBar }
-{
-    X_BAR
-}
+    Stretch { end: 471, unit: 10 },
+    Stretch { end: 471, unit: 1 },
+];
 
 // ȳ of the 1931 observer, which is V, at 10^13 to one, counted in the unit of each stretch.
-const Y_BAR: [u64; 471] = [
+pub static Y_BAR: [u64; 471] = [
     3917000, 4393581, 4929604, 5532136, 6208245, 6965000, 7813219, 8767336, 9839844, 11043230,
     12390000, 13886410, 15557280, 17442960, 19583750, 22020000, 24839650, 28041260, 31531040,
     35215210, 39000000, 42826400, 46914600, 51589600, 57176400, 64000000, 72344210, 82212240,
@@ -147,24 +133,18 @@ const Y_BAR: [u64; 471] = [
     5980895, 5575746, 5198080, 4846123, 4518100,
 ];
 
-pub const Y_BAR_UNITS: Units = Units {
-    first: Stretch { end: 61, unit: 10 },
-    second: Stretch {
+pub static Y_BAR_STRETCHES: [Stretch; 4] = [
+    Stretch { end: 61, unit: 10 },
+    Stretch {
         end: 361,
         unit: 10000,
     },
-    third: Stretch { end: 459, unit: 10 },
-    rest: 1,
-};
-
-pub fn y_bar() -> [u64; 471]
-    ensures { result ≡ in_units Curve.YBar }
-{
-    Y_BAR
-}
+    Stretch { end: 459, unit: 10 },
+    Stretch { end: 471, unit: 1 },
+];
 
 // z̄ of the 1931 observer, at 10^13 to one, counted in the unit of each stretch.
-const Z_BAR: [u64; 471] = [
+pub static Z_BAR: [u64; 471] = [
     6061000, 6808792, 7651456, 8600124, 9665928, 10860000, 12205860, 13727290, 15435790, 17342860,
     19460000, 21777770, 24358090, 27319530, 30780640, 34860000, 39752270, 45408800, 51583200,
     58029070, 64500010, 70832160, 77454880, 85011520, 94145440, 105499900, 119658000, 136558700,
@@ -206,27 +186,21 @@ const Z_BAR: [u64; 471] = [
     0, 0, 0, 0, 0, 0, 0, 0, 0, 0, 0, 0, 0, 0, 0, 0, 0, 0, 0, 0, 0, 0, 0, 0, 0, 0, 0,
 ];
 
-pub const Z_BAR_UNITS: Units = Units {
-    first: Stretch {
+pub static Z_BAR_STRETCHES: [Stretch; 4] = [
+    Stretch {
         end: 57,
         unit: 1000,
     },
-    second: Stretch {
+    Stretch {
         end: 246,
         unit: 10000,
     },
-    third: Stretch { end: 471, unit: 10 },
-    rest: 1,
-};
-
-pub fn z_bar() -> [u64; 471]
-    ensures { result ≡ in_units Curve.ZBar }
-{
-    Z_BAR
-}
+    Stretch { end: 471, unit: 10 },
+    Stretch { end: 471, unit: 1 },
+];
 
 // x̄10 of the 1964 observer, at 10^13 to one, counted in the unit of each stretch.
-const X_BAR_10: [u64; 471] = [
+pub static X_BAR_10: [u64; 471] = [
     122200, 185138, 278830, 417470, 621330, 919270, 1351980, 1976540, 2872500, 4149500, 5958600,
     8505600, 12068600, 17022600, 23868000, 33266000, 46087000, 63472000, 86892000, 118246000,
     159952000, 215080000, 287490000, 381990000, 504550000, 662440000, 864500000, 1121500000,
@@ -283,24 +257,18 @@ const X_BAR_10: [u64; 471] = [
     22078000, 20820000, 19636000, 18519000, 17465000, 16471000, 15531400,
 ];
 
-pub const X_BAR_10_UNITS: Units = Units {
-    first: Stretch { end: 33, unit: 10 },
-    second: Stretch {
+pub static X_BAR_10_STRETCHES: [Stretch; 4] = [
+    Stretch { end: 33, unit: 10 },
+    Stretch {
         end: 410,
         unit: 10000,
     },
-    third: Stretch { end: 471, unit: 1 },
-    rest: 1,
-};
-
-pub fn x_bar_10() -> [u64; 471]
-    ensures { result ≡ in_units Curve.XBar10 }
-{
-    X_BAR_10
-}
+    Stretch { end: 471, unit: 1 },
+    Stretch { end: 471, unit: 1 },
+];
 
 // ȳ10 of the 1964 observer, which is V10, at 10^13 to one, counted in the unit of each stretch.
-const Y_BAR_10: [u64; 471] = [
+pub static Y_BAR_10: [u64; 471] = [
     13398, 20294, 30560, 45740, 68050, 100650, 147980, 216270, 314200, 453700, 651100, 928800,
     1317500, 1857200, 2602000, 3625000, 5019000, 6907000, 9449000, 12848000, 17364000, 23327000,
     31150000, 41350000, 54560000, 71560000, 93300000, 120870000, 155640000, 199200000, 253400000,
@@ -357,24 +325,18 @@ const Y_BAR_10: [u64; 471] = [
     6674800, 6297000,
 ];
 
-pub const Y_BAR_10_UNITS: Units = Units {
-    first: Stretch { end: 45, unit: 10 },
-    second: Stretch {
+pub static Y_BAR_10_STRETCHES: [Stretch; 4] = [
+    Stretch { end: 45, unit: 10 },
+    Stretch {
         end: 405,
         unit: 10000,
     },
-    third: Stretch { end: 471, unit: 1 },
-    rest: 1,
-};
-
-pub fn y_bar_10() -> [u64; 471]
-    ensures { result ≡ in_units Curve.YBar10 }
-{
-    Y_BAR_10
-}
+    Stretch { end: 471, unit: 1 },
+    Stretch { end: 471, unit: 1 },
+];
 
 // z̄10 of the 1964 observer, at 10^13 to one, counted in the unit of each stretch.
-const Z_BAR_10: [u64; 471] = [
+pub static Z_BAR_10: [u64; 471] = [
     535027, 810720, 1221200, 1828700, 2722200, 4028300, 5925700, 8665100, 12596000, 18201000,
     26143700, 37330000, 52987000, 74764000, 104870000, 146220000, 202660000, 279230000, 382450000,
     520720000, 704776000, 948230000, 1268200000, 1686100000, 2228500000, 2927800000, 3823700000,
@@ -409,24 +371,18 @@ const Z_BAR_10: [u64; 471] = [
     0, 0, 0, 0, 0, 0, 0, 0, 0, 0, 0, 0, 0, 0, 0, 0, 0, 0, 0, 0, 0, 0, 0, 0, 0, 0, 0, 0, 0,
 ];
 
-pub const Z_BAR_10_UNITS: Units = Units {
-    first: Stretch { end: 27, unit: 10 },
-    second: Stretch {
+pub static Z_BAR_10_STRETCHES: [Stretch; 4] = [
+    Stretch { end: 27, unit: 10 },
+    Stretch {
         end: 471,
         unit: 10000,
     },
-    third: Stretch { end: 471, unit: 1 },
-    rest: 1,
-};
-
-pub fn z_bar_10() -> [u64; 471]
-    ensures { result ≡ in_units Curve.ZBar10 }
-{
-    Z_BAR_10
-}
+    Stretch { end: 471, unit: 1 },
+    Stretch { end: 471, unit: 1 },
+];
 
 // V′, which is 0 below 380 and above 780 nm, at 10^13 to one, counted in the unit of each stretch.
-const V_PRIME: [u64; 471] = [
+pub static V_PRIME: [u64; 471] = [
     0, 0, 0, 0, 0, 0, 0, 0, 0, 0, 0, 0, 0, 0, 0, 0, 0, 0, 0, 0, 589000, 665000, 752000, 854000,
     972000, 1108000, 1268000, 1453000, 1668000, 1918000, 2209000, 2547000, 2939000, 3394000,
     3921000, 4530000, 5240000, 6050000, 6980000, 8060000, 9290000, 10700000, 12310000, 14130000,
@@ -473,24 +429,18 @@ const V_PRIME: [u64; 471] = [
     0, 0, 0, 0, 0, 0, 0,
 ];
 
-pub const V_PRIME_UNITS: Units = Units {
-    first: Stretch {
+pub static V_PRIME_STRETCHES: [Stretch; 4] = [
+    Stretch {
         end: 404,
         unit: 10000,
     },
-    second: Stretch { end: 471, unit: 1 },
-    third: Stretch { end: 471, unit: 1 },
-    rest: 1,
-};
-
-pub fn v_prime() -> [u64; 471]
-    ensures { result ≡ in_units Curve.VPrime }
-{
-    V_PRIME
-}
+    Stretch { end: 471, unit: 1 },
+    Stretch { end: 471, unit: 1 },
+    Stretch { end: 471, unit: 1 },
+];
 
 // V_F, the cone-fundamental curve of 2°, 0 below 390 nm, from 504 nm on not from the source text, at 10^13 to one, counted in the unit of each stretch.
-const V_F: [u64; 471] = [
+pub static V_F: [u64; 471] = [
     0, 0, 0, 0, 0, 0, 0, 0, 0, 0, 0, 0, 0, 0, 0, 0, 0, 0, 0, 0, 0, 0, 0, 0, 0, 0, 0, 0, 0, 0,
     4146161, 5028333, 6084991, 7344436, 8837389, 10596460, 12655320, 15047530, 17804930, 20955720,
     24521940, 28522160, 32991150, 37974660, 43527680, 49717170, 56610140, 64216150, 72503120,
@@ -546,27 +496,21 @@ const V_F: [u64; 471] = [
     9989507, 9422514, 8888804, 8386690, 7914539, 7470770, 7053860,
 ];
 
-pub const V_F_UNITS: Units = Units {
-    first: Stretch {
+pub static V_F_STRETCHES: [Stretch; 4] = [
+    Stretch {
         end: 146,
         unit: 1000,
     },
-    second: Stretch {
+    Stretch {
         end: 360,
         unit: 10000,
     },
-    third: Stretch { end: 464, unit: 10 },
-    rest: 1,
-};
-
-pub fn v_f() -> [u64; 471]
-    ensures { result ≡ in_units Curve.VF }
-{
-    V_F
-}
+    Stretch { end: 464, unit: 10 },
+    Stretch { end: 471, unit: 1 },
+];
 
 // V_F,10, the cone-fundamental curve of 10°, 0 below 390 nm, not from the source text, at 10^13 to one, counted in the unit of each stretch.
-const V_F_10: [u64; 471] = [
+pub static V_F_10: [u64; 471] = [
     0, 0, 0, 0, 0, 0, 0, 0, 0, 0, 0, 0, 0, 0, 0, 0, 0, 0, 0, 0, 0, 0, 0, 0, 0, 0, 0, 0, 0, 0,
     4076779, 4977769, 6064754, 7370040, 8929388, 10781660, 12968160, 15531590, 18514630, 21957950,
     25897750, 30367990, 35419260, 41114220, 47526180, 54742070, 62850340, 71880680, 81817860,
@@ -622,37 +566,21 @@ const V_F_10: [u64; 471] = [
     8986224, 8476168, 7996052, 7544361, 7119624, 6720421, 6345380,
 ];
 
-pub const V_F_10_UNITS: Units = Units {
-    first: Stretch {
+pub static V_F_10_STRETCHES: [Stretch; 4] = [
+    Stretch {
         end: 137,
         unit: 1000,
     },
-    second: Stretch {
+    Stretch {
         end: 358,
         unit: 10000,
     },
-    third: Stretch { end: 463, unit: 10 },
-    rest: 1,
-};
-
-pub fn v_f_10() -> [u64; 471]
-    ensures { result ≡ in_units Curve.VF10 }
-{
-    V_F_10
-}
-
-// The whole table of an illuminant.
-pub fn powers_of(illuminant: Illuminant) -> [u32; 471]
-    ensures { result ≡ powers illuminant }
-{
-    match illuminant {
-        Illuminant::A => illuminant_a(),
-        Illuminant::D65 => illuminant_d65(),
-    }
-}
+    Stretch { end: 463, unit: 10 },
+    Stretch { end: 471, unit: 1 },
+];
 
 // Illuminant A, from 800 nm on by its equation, at 10^5 to one.
-const ILLUMINANT_A: [u32; 471] = [
+pub static ILLUMINANT_A: [u32; 471] = [
     614462, 629955, 645724, 661774, 678105, 694720, 711621, 728811, 746292, 764066, 782135, 800501,
     819167, 838134, 857404, 876980, 896864, 917056, 937561, 958378, 979510, 1000960, 1022730,
     1044810, 1067220, 1089960, 1113020, 1136400, 1160120, 1184160, 1208530, 1233240, 1258280,
@@ -705,14 +633,8 @@ const ILLUMINANT_A: [u32; 471] = [
     25951100, 25986500, 26021700, 26056700, 26091400, 26125900, 26160200,
 ];
 
-fn illuminant_a() -> [u32; 471]
-    ensures { result ≡ powers Illuminant.A }
-{
-    ILLUMINANT_A
-}
-
 // Illuminant D65, from 761 nm on by the line between the tens, at 10^5 to one.
-const ILLUMINANT_D65: [u32; 471] = [
+pub static ILLUMINANT_D65: [u32; 471] = [
     4663830, 4718340, 4772850, 4827350, 4881860, 4936370, 4990880, 5045390, 5099890, 5154400,
     5208910, 5187770, 5166640, 5145500, 5124370, 5103230, 5082090, 5060960, 5039820, 5018690,
     4997550, 5044280, 5091000, 5137730, 5184460, 5231180, 5277910, 5324640, 5371370, 5418090,
@@ -763,9 +685,3 @@ const ILLUMINANT_D65: [u32; 471] = [
     5579610, 5634430, 5689240, 5744060, 5772780, 5801500, 5830220, 5858940, 5887650, 5916370,
     5945090, 5973810, 6002530, 6031250,
 ];
-
-fn illuminant_d65() -> [u32; 471]
-    ensures { result ≡ powers Illuminant.D65 }
-{
-    ILLUMINANT_D65
-}

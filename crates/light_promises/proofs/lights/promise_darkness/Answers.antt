@@ -18,9 +18,9 @@ returns c =
       research_32 = λ a s xs f u. ap said_reading (no_illuminance a s xs f VF u);
       research_40 = λ a s xs f u. ap said_reading (no_illuminance a s xs f VF10 u);
       mesopic = λ k a s xs h f u v. ap said_reading (no_mesopic a s xs f k h u v);
-      xyz = λ o a s xs e f u. ap said_xyz (no_xyz a s xs f o e u);
-      xy = λ o a s xs e f u. ap said_xy (no_xy a s xs f o e u);
-      uv = λ o a s xs e f u. ap said_uv (no_uv a s xs f o e u);
-      chart = λ o a s xs e f u. ap said_chart (no_point a s xs f o e u);
+      xyz = λ o a s xs who e f u. ap said_xyz (no_xyz a s xs f who u o e);
+      xy = λ o a s xs who e f u. ap said_xy (no_xy a s xs f who u o e);
+      uv = λ o a s xs who e f u. ap said_uv (no_uv a s xs f who u o e);
+      chart = λ o a s xs who e f u. ap said_chart (no_point a s xs f who u o e);
       figures = λ a s xs f u v. ap said_figures (no_figures a s xs f u v);
     }

@@ -5,8 +5,7 @@ use Prim.Native.Nat.{ℕ, ◌*◌, ◌-◌, ◌≤◌}
 use native.Mathlib.Nat.{mul-le-mul_right}
 use native.Mathlib.Omega.{arith}
 use lib.ListN.{length}
-use Rattle.grid.specs.declared.Check.TheVariants.{Fine}
-use Rattle.grid.specs.Check.{light_check}
+use Rattle.grid.specs.Check.{Fine, light_check}
 use Rattle.grid.proofs.Light.{on_grid}
 use Rattle.record.specs.Bits.{pack, bytewise, Bytes}
 use Rattle.record.specs.Format.{header_widths, body_widths, header_fields, body_fields, length_of, record_of}

@@ -4,8 +4,7 @@ use mathlib.Core.List.{List, ◌++◌}
 use Prim.Native.Nat.{ℕ, ◌≤◌}
 use borrow.Author.Tests.{le-leb}
 use lib.ListN.{length, drop}
-use Rattle.grid.specs.declared.Check.TheVariants.{Fine}
-use Rattle.grid.specs.Check.{light_check}
+use Rattle.grid.specs.Check.{Fine, light_check}
 use Rattle.record.specs.Format.{record_of}
 use Rattle.record.specs.Answer.{read_answer, row_after}
 use Rattle.record.specs.Said.{read_as, said_read}

@@ -1,5 +1,0 @@
--- The number itself falls, by its last digit.
-use Rattle.page.proofs.put.+put_number.Given as goal
-
-abbrev pub decreases-put_number : goal.decreases-put_number
-decreases-put_number l = l.n
