@@ -15,7 +15,7 @@ pub fn light(illuminant: Illuminant, high: &mut [u64; 471], low: &mut [u64; 471]
     requires { Within 100000 low.old }
     ensures lit { IsLit illuminant low.old high.new low.new }
     ensures high_small { Within 10000000 high.new }
-    ensures low_small { Within 10000000 low.new }
+    ensures low_small { Within 2097151 low.new }
 {
     let powers = illuminant.powers();
     // By place: of two rows that are changed through one chain nothing is known behind it.
@@ -30,7 +30,7 @@ pub fn light(illuminant: Illuminant, high: &mut [u64; 471], low: &mut [u64; 471]
 /// The weighted sum of such a row. Each of the two is weighed as light is.
 pub fn weigh_lit(curve: Curve, high: &[u64; 471], low: &[u64; 471]) -> u128
     requires high { Within 10000000 high.now }
-    requires low { Within 10000000 low.now }
+    requires low { Within 2097151 low.now }
     ensures sum { result ≡ weighted 471 (weight_of curve) (lit_line high.now low.now) }
     ensures most { result ≤ 2 ^ 96 }
 {

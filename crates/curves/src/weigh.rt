@@ -7,7 +7,7 @@ ghost use Rattle.tables.specs.Held.{Counts};
 
 use tables::Curve;
 
-/// The sum of weight times row, of a row that holds a step of at most 10 times a sample of at most 1,000,000 at each place.
+/// The sum of weight times row, of a row that holds at most 10,000,000 at each place: a step times a sample, or a part of a panel's.
 pub fn weigh(curve: Curve, row: &[u64; 471]) -> u128
     requires { Within 10000000 row.now }
     ensures sum { result ≡ weighted 471 (weight_of curve) (entry_of row.now) }

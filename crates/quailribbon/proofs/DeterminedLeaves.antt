@@ -23,6 +23,7 @@ use Rattle.tables.proofs.Illuminant.powers.Reads as powers
 use Rattle.tables.proofs.settings.Observer.curves.Reads as curves
 use Rattle.tables.proofs.settings.ObserverTryFromU32.try_from.Reads as observer_from
 use Rattle.tables.proofs.settings.IlluminantTryFromU32.try_from.Reads as illuminant_from
+use Rattle.tables.specs.declared.units.Stretch.{Stretch}
 use Rattle.curves.proofs.weigh.weigh.Reads as weigh
 use Rattle.curves.proofs.lit.weigh_lit.Reads as weigh_lit
 use Rattle.efficacy.proofs.divisor.Reads as divisor
@@ -79,11 +80,8 @@ one_check_spectrum T l c n d m b k a r q e f p s = same p s
 
 -- tables
 
-one_table : OneSeen (λ t. t.stretches.now) table.Post
-one_table k a r q e f p s = same p.0 s.0
-
-one_table_of_counts : OneSeen (λ t. t.counts.now) table.Post
-one_table_of_counts k a r q e f p s = same p.1 s.1
+one_table : OneSeen {S = List Stretch × List ℕ} (λ t. (t.stretches.now, t.counts.now)) table.Post
+one_table k a r q e f p s = λ i. (same p.0 s.0 i, same p.1 s.1 i)
 
 one_powers : OneSeen (λ t. t.now) powers.Post
 one_powers k a r q e f p s = same p s
