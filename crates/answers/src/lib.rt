@@ -34,7 +34,7 @@ pub struct ChartPoint {
     pub v: f64,
 }
 
-/// Where a light or a panel stands on the chart; a dark one has no place there.
+/// Where a light or a panel stands on the chart; a dark one has no place there, which is an answer and no lack of one.
 #[derive(Clone, Copy, Debug)]
 pub enum OnChart {
     Point(ChartPoint),

@@ -1,5 +1,5 @@
 // Three exact sums, and what is worked from them: each figure divides once, at the end.
-ghost use Rattle.std.specs.Prelude.{◌≡◌, ◌+◌, ◌*◌, ◌^◌, ◌<◌, ◌≤◌};
+ghost use Rattle.std.specs.Prelude.{◌≡◌, ◌*◌, ◌^◌, ◌<◌, ◌≤◌};
 ghost use Rattle.answers.specs.Sums.{XyzFit};
 ghost use Rattle.answers.specs.Worked.{in_hundred_thousandths, xyz_from, xy_from, uv_divisor, uv_over, uv_from, chart_from, chart_point, coordinate_float};
 
@@ -8,7 +8,7 @@ use exact::nearest;
 use grid::{Kind, Refusal, require};
 use std::marker::Model;
 
-/// The sums by an observer's three curves, each below 2^96.
+/// The sums by an observer's three curves, each at most 2^96.
 #[derive(Clone, Copy)]
 pub struct Sums {
     x: u128,

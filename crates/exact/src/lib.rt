@@ -11,8 +11,8 @@ pub fn nearest(n: u128, d: u128) -> u32
     ensures { result ≡ nearest n d }
 {
     let quotient = n / d;
+    // By a product, since a remainder of 128 bits is a second division. Twice the rest may pass 128 bits.
     let rest = n - quotient * d;
-    // Twice the rest may pass 128 bits.
     if rest < d - rest {
         quotient as u32
     } else {

@@ -69,10 +69,6 @@ Within limit xs = (k : ℕ) → slice_index xs k ≤ limit
 abbrev pub samples_check : List ℕ → Check
 samples_check xs = limit_check Sample 1000000 xs
 
--- REFLECTANCE: a reflectance above 10,000
-abbrev pub reflectances_check : List ℕ → Check
-reflectances_check rs = limit_check Reflectance 10000 rs
-
 -- STEP, START, COUNT, and then the refusal of this kind at the first entry above the limit
 unfoldable pub spectrum_check : Kind → ℕ → ℕ → ℕ → List ℕ → Check
 spectrum_check kind limit a s xs = do

@@ -4,7 +4,7 @@
 pub mod refusals;
 pub mod rows;
 
-ghost use Rattle.std.specs.Prelude.{◌≡◌, true, ◌≤◌, length};
+ghost use Rattle.std.specs.Prelude.{◌≡◌, true, length};
 ghost use Rattle.grid.specs.Check.{grid_check, is_step, is_start, is_count, spectrum_check};
 
 pub use crate::refusals::{Kind, Refusal, require};

@@ -22,7 +22,7 @@ pub enum Kind {
     Room = 14,
 }
 
-/// A refusal: its kind, and the place of the first faulty sample for SAMPLE and REFLECTANCE, from 0 (else 0).
+/// A refusal: its kind, and the place of the first faulty sample for SAMPLE and REFLECTANCE, from 0 (else 0, as C has it).
 #[derive(Clone, Copy, Debug, PartialEq, Eq)]
 pub struct Refusal {
     pub kind: Kind,

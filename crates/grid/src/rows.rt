@@ -1,5 +1,5 @@
 // What a spectrum's row holds, samples or reflectances, and the check that none is above the limit.
-ghost use Rattle.std.specs.Prelude.{◌≡◌, ◌≤◌, ◌+◌, ℕ, length, map, List, position, true, ◌&&◌, nat_le, nat_lt};
+ghost use Rattle.std.specs.Prelude.{◌≡◌, ◌≤◌, ℕ, length, map, List, position, true, ◌&&◌, nat_le, nat_lt};
 ghost use Rattle.std.specs.List.{fold};
 ghost use Rattle.grid.specs.declared.refusals.Kind.{Kind};
 ghost use Rattle.grid.specs.Check.{limit_check};

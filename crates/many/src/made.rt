@@ -137,13 +137,13 @@ fn count_from(d: u64, start: u32, step: u32) -> usize
     steps.min(531) as usize + 1
 }
 
-// Fills the samples by the mode; only modes 3 to 6 draw for each.
+// Fills the samples by the mode, a number as in the second program; only modes 3 to 6 draw for each.
 fn fill(mode: u64, draws: &mut Draws, samples: &mut [u32])
     requires { length samples.old ≤ 532 }
 {
     let mut d = draws.last;
     for (k, sample) in samples.iter_mut().enumerate() {
-        if let 3..=6 = mode {
+        if (3..=6).contains(&mode) {
             d = draws.draw();
         }
         *sample = sample_from(mode, d, k as u64);
@@ -168,7 +168,7 @@ fn put_one(mode: u64, draws: &mut Draws, samples: &mut [u32]) {
     if samples.is_empty() {
         return;
     }
-    if let 1 | 5 = mode {
+    if mode == 1 || mode == 5 {
         let place = draws.draw() as usize % samples.len();
         let d = draws.draw();
         samples[place] = match mode {

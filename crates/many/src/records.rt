@@ -1,5 +1,5 @@
 // What is printed of an input's record: written where there is little room, written whole, read back, and read again damaged.
-ghost use Rattle.std.specs.Prelude.{◌≡◌, ◌≤◌, ◌<◌, ◌*◌, length};
+ghost use Rattle.std.specs.Prelude.{◌≤◌, ◌<◌, length};
 
 use crate::made::{Draws, Input};
 use crate::shown::{answer, list, refused};

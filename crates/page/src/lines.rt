@@ -13,7 +13,7 @@ use readings::figures::ReportFigures;
 /// A report in the making. It has more room than any takes, so that no line need know how few digits its number has.
 pub type Page = ArrayString<256>;
 
-// What a line shows behind its word.
+// What a line shows behind its word, so that every line is pushed by one function.
 #[derive(Clone, Copy, Debug)]
 enum Shown {
     Number(u32),

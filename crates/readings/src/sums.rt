@@ -1,5 +1,5 @@
 // The weighted sums of a light, whose line is laid over a row once and weighed by every curve that is asked for.
-ghost use Rattle.std.specs.Prelude.{◌≡◌, ◌+◌, ◌*◌, ◌-◌, ◌≤◌, ◌^◌};
+ghost use Rattle.std.specs.Prelude.{◌≡◌, ◌+◌, ◌*◌, ◌-◌, ◌≤◌};
 ghost use Rattle.grid.specs.Check.{Within};
 ghost use Rattle.readings.specs.Readings.{seen_of, light_sums, sums_of};
 ghost use Rattle.readings.specs.Sums.{row_sums};

@@ -30,6 +30,7 @@ fn header_from(number: u32) -> Result<Header, Refusal>
     Ok(Header { start, step, count })
 }
 
+// A step's code and back, in the order of the format; a step is a number here, as it is in the header that callers get.
 fn step_of(code: u32) -> u32
     ensures { result ≡ step_of_code code }
 {

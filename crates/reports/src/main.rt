@@ -7,20 +7,14 @@ use std::rt::Files;
 use std::{fs, io};
 
 fn main(rt: HostRuntime) -> io::Result<()> {
-    print_named(&rt, "dark")?;
-    print_named(&rt, "largest")?;
-    print_named(&rt, "longest")?;
-    print_named(&rt, "start")?;
-    print_named(&rt, "count")?;
-    print_named(&rt, "sample")?;
-    print_named(&rt, "edition")?;
-    print_named(&rt, "reserved")?;
-    print_named(&rt, "padding")?;
-    print_named(&rt, "empty")?;
-    print_named(&rt, "short")?;
-    print_named(&rt, "cut")?;
-    print_named(&rt, "overlong")?;
-    print_named(&rt, "unending")
+    let names = [
+        "dark", "largest", "longest", "start", "count", "sample", "edition", "reserved", "padding",
+        "empty", "short", "cut", "overlong", "unending",
+    ];
+    for name in names {
+        print_named(&rt, name)?;
+    }
+    Ok(())
 }
 
 fn print_named<R: Files + Print + Eprint>(rt: &R, name: &str) -> io::Result<()> {

@@ -1,6 +1,7 @@
 // T laid out as a row of 471 places from 360 to 830 nm: the straight line through the samples, walked from sample to sample with
 // no division, and what is carried beyond them. Samples and places are counted: T is said of a wavelength, and of what two
-// iterators hand out together nothing is known behind a loop.
+// iterators hand out together nothing is known behind a loop. The part stays a parameter of each: a type of its own would be built in
+// one place, and be a second spectrum beside that one.
 ghost use Rattle.std.specs.Prelude.{◌≡◌, ◌+◌, ◌*◌, ◌-◌, ◌^◌, ◌<◌, ◌≤◌, length, slice_index};
 ghost use Rattle.grid.specs.Check.{last_of};
 ghost use Rattle.spectrum.specs.Lay.{row_of, Part, AtEnd, LaidTo};
