@@ -37,7 +37,7 @@ struct Apart {
     most: u32,
 }
 
-// The gaps in a range, of both observers.
+// The gaps in a range, of both observers, by the numbers that readings take and the page prints.
 fn both_observers(rt: &impl Print, apart: Apart) -> io::Result<()> {
     print!(rt; "| observer | nm | coordinate | printed | ours |\n|---|---|---|---|---|\n")?;
     rows(rt, 2, &X, &Y, apart)?;

@@ -26,7 +26,7 @@ impl Draws {
     }
 }
 
-/// What is asked, and of which samples and reflectances.
+/// What is asked, by number as readings take it, bad ones too, and of which samples and reflectances: so many of rows of fixed length.
 #[derive(Drop)]
 pub struct Input {
     pub k: u32,

@@ -82,7 +82,7 @@ fn push_number(page: &mut Page, n: u32)
     page.push_str(Buffer::new().format(n));
 }
 
-// So many hundred-thousandths.
+// So many hundred-thousandths, by their digits, as the rules have them: a float would be rounded.
 #[tactic(auto, using(std::proofs::lemmas::Fmt::decimal_nonempty))]
 fn push_coordinate(page: &mut Page, n: u32)
     requires { array_string_len page.old + 24 ≤ 256 }

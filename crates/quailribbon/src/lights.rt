@@ -1,4 +1,4 @@
-// The readings of a light, for C.
+// The readings of a light, for C, which asks for an observer by its number.
 ghost use Rattle.std.specs.Prelude.{◌≡◌};
 ghost use Rattle.answers.specs.Said.{said_reading, said_xyz, said_xy, said_uv, said_chart};
 ghost use Rattle.readings.specs.Readings.{photopic_of, scotopic_of, photopic10_of, mesopic_of, research_of, xyz_of, xy_of, uv_of, chart_of, figures_of};

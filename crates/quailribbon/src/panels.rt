@@ -1,4 +1,4 @@
-// The colour of a panel, for C.
+// The colour of a panel, for C, which asks for observer and illuminant by their numbers.
 ghost use Rattle.std.specs.Prelude.{◌≡◌};
 ghost use Rattle.answers.specs.Said.{said_xyz, said_xy, said_uv, said_chart};
 ghost use Rattle.panel.specs.Panel.{panel_xyz_of, panel_xy_of, panel_uv_of, panel_chart_of};
