@@ -25,12 +25,9 @@ module _ (i : Illuminant) (row : List ℕ) (small : Within 100000 row) where
   product_small : (k : ℕ) → product i row k ≤ 2616020000000
   product_small k = mul-le-mul (power_bound i k) (small k)
 
-  -- each of the two rows can be weighed
+  -- the high row can be weighed
   pub high_within : (high : List ℕ) → FilledTo 471 (λ k. product i row k / 2 ^ 21) high 471 → Within 10000000 high
   high_within high filled = filled_within 471 10000000 _ high filled (λ k. let h = product_small k in omega arith)
-
-  pub low_within : (low : List ℕ) → FilledTo 471 (λ k. product i row k % 2 ^ 21) low 471 → Within 2097151 low
-  low_within low filled = filled_within 471 2097151 _ low filled (λ k. omega arith)
 
   pub joined :
       (high low : List ℕ) → FilledTo 471 (λ k. product i row k / 2 ^ 21) high 471 → FilledTo 471 (λ k. product i row k % 2 ^ 21) low 471 →
