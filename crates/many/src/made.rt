@@ -1,5 +1,5 @@
 // An input from its draws.
-ghost use Rattle.std.specs.Prelude.{◌≡◌, ◌*◌, ◌%◌, ◌<◌, ◌≤◌, length};
+ghost use Rattle.std.specs.Prelude.{◌≡◌, ◌*◌, ◌%◌, ◌<◌, ◌≤◌, length, take};
 ghost use Rattle.many.specs.Generator.{step_from, start_from, observer_from, illuminant_from};
 
 /// Draws, each from the one before.
@@ -10,14 +10,14 @@ pub struct Draws {
 }
 
 impl Draws {
-    pub fn from(seed: u64) -> Draws
+    pub(crate) fn from(seed: u64) -> Draws
         requires { seed < 2147483647 }
         ensures { result.last ≡ seed }
     {
         Draws { last: seed }
     }
 
-    pub fn draw(&mut self) -> u64
+    pub(crate) fn draw(&mut self) -> u64
         ensures draw { result ≡ self.old.last * 48271 % 2147483647 }
         ensures last { self.new.last ≡ result }
     {
@@ -42,7 +42,7 @@ pub struct Input {
 
 impl Input {
     /// Made of the draws.
-    pub fn from(draws: &mut Draws) -> Input {
+    pub(crate) fn from(draws: &mut Draws) -> Input {
         for _ in 0..3 {
             draws.draw();
         }
@@ -72,11 +72,15 @@ impl Input {
         }
     }
 
-    pub fn samples(&self) -> &[u32] {
+    pub(crate) fn samples(&self) -> &[u32]
+        ensures { result.now ≡ take self.now.count self.now.samples }
+    {
         &self.samples[..self.count]
     }
 
-    pub fn reflectances(&self) -> &[u16] {
+    pub(crate) fn reflectances(&self) -> &[u16]
+        ensures { result.now ≡ take self.now.count self.now.reflectances }
+    {
         &self.reflectances[..self.count]
     }
 }

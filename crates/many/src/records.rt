@@ -6,7 +6,7 @@ use crate::shown::{answer, list, refused};
 use record::Header;
 use std::io;
 
-pub fn record(rt: &impl Print, input: &Input, draws: &mut Draws) -> io::Result<()> {
+pub(crate) fn record(rt: &impl Print, input: &Input, draws: &mut Draws) -> io::Result<()> {
     let (start, step, samples) = (input.start, input.step, input.samples());
     let room = draws.draw() as usize % 1332;
     let mut bytes = [0u8; 1331];

@@ -6,7 +6,7 @@ use std::io;
 use std::num::f64_to_bits_with_nan;
 
 /// An answer of so many values, behind a space.
-pub fn answer<const N: usize>(
+pub(crate) fn answer<const N: usize>(
     rt: &impl Print,
     answer: Result<[u32; N], Refusal>,
 ) -> io::Result<()> {
@@ -18,7 +18,7 @@ pub fn answer<const N: usize>(
 }
 
 /// Where a light or a panel stands on the chart: the 64 bits of each coordinate, as a number.
-pub fn chart(rt: &impl Print, answer: Result<OnChart, Refusal>) -> io::Result<()> {
+pub(crate) fn chart(rt: &impl Print, answer: Result<OnChart, Refusal>) -> io::Result<()> {
     print!(rt; " ")?;
     match answer {
         Ok(OnChart::Point(point)) => list(
@@ -36,14 +36,14 @@ pub fn chart(rt: &impl Print, answer: Result<OnChart, Refusal>) -> io::Result<()
 }
 
 /// A refusal.
-pub fn refused(rt: &impl Print, refusal: Refusal) -> io::Result<()> {
+pub(crate) fn refused(rt: &impl Print, refusal: Refusal) -> io::Result<()> {
     let number = refusal.number();
     let place = refusal.place;
     print!(rt; "!{number}@{place}")
 }
 
 /// Values with commas between.
-pub fn list<T: Display + Copy>(rt: &impl Print, values: &[T]) -> io::Result<()> {
+pub(crate) fn list<T: Display + Copy>(rt: &impl Print, values: &[T]) -> io::Result<()> {
     for (i, value) in values.iter().enumerate() {
         if 0 < i {
             print!(rt; ",")?;
