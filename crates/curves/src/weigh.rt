@@ -7,7 +7,8 @@ ghost use Rattle.tables.specs.Held.{Counts};
 
 use tables::Curve;
 
-/// The sum of weight times row, of a row that holds at most 10,000,000 at each place: a step times a sample, or a part of a panel's.
+/// The sum of weight times row, of a row that holds at most 10,000,000 at each place: a step times a sample, or a part of a panel's. The
+/// bound is a clause: a type of its own would be cleared and copied, or be one more between a spectrum and its sums.
 pub fn weigh(curve: Curve, row: &[u64; 471]) -> u128
     requires { Within 10000000 row.now }
     ensures sum { result ≡ weighted 471 (weight_of curve) (entry_of row.now) }

@@ -97,7 +97,7 @@ fn push_coordinate(page: &mut Page, n: u32)
     page.push_str(&places[1..]);
 }
 
-// A refusal's number, and its place for SAMPLE only.
+// A refusal's number, and its place for SAMPLE only: a page's text of it, where another program has its own.
 fn push_refusal(page: &mut Page, refusal: Refusal)
     requires { array_string_len page.old + 24 ≤ 256 }
     ensures text { page.new.bytes ≡ page.old.bytes ++ numbered refusal }

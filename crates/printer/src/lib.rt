@@ -33,7 +33,8 @@ fn read_full<R: Read>(from: &mut R, bytes: &mut [u8]) -> io::Result<usize>
     Ok(count)
 }
 
-// Writes the report and gives its length. A text of 99 bytes has room for any, so there is no refusal to give 0 for.
+// Writes the report and gives its length, as `write_report` says it. A text of 99 bytes has room for any, so there is no refusal to
+// give 0 for.
 #[tactic(auto, using(page::proofs::Length::written))]
 fn report_length(bytes: &[u8], text: &mut [u8]) -> usize
     requires { 99 ≤ length text.old }
