@@ -15,6 +15,7 @@ pub fn weigh(curve: Curve, row: &[u64; 471]) -> u128
     ensures most { result ≤ 20000000000000000000000 }
 {
     let table = curve.table();
+    // Carried along: a stretch begins where the one before it ends.
     let mut sum: u128 = 0;
     let mut begin = 0;
     for stretch in table.stretches {

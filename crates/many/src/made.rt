@@ -93,6 +93,7 @@ static OBSERVERS: [u32; 16] = [2, 10, 2, 10, 2, 10, 2, 10, 32, 40, 32, 40, 32, 4
 
 static ILLUMINANTS: [u32; 8] = [1, 2, 1, 2, 1, 2, 0, 3];
 
+// Each of these is as the definitions and the second program have it.
 fn step_from(d: u64) -> u32
     ensures { result ≡ step_from d }
 {

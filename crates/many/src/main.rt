@@ -86,6 +86,7 @@ fn panel(rt: &impl Print, input: &Input) -> io::Result<()> {
     }
 }
 
+// Each of these takes an answer of its own apart.
 fn xyz(rt: &impl Print, answer: Result<Xyz, Refusal>) -> io::Result<()> {
     shown::answer(rt, answer.map(|Xyz { x, y, z }| [x, y, z]))
 }

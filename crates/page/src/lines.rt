@@ -10,7 +10,8 @@ use grid::{Kind, Refusal};
 use itoa::Buffer;
 use readings::figures::ReportFigures;
 
-/// A report in the making. It has more room than any takes, so that no line need know how few digits its number has.
+/// A report in the making. It has more room than any takes, so that no line need know how few digits its number has; each
+/// of those that push asks for the room that it may take at most.
 pub type Page = ArrayString<256>;
 
 // What a line shows behind its word, so that every line is pushed by one function.

@@ -29,7 +29,8 @@ pub enum Curve {
 }
 
 impl Curve {
-    /// Its table, in units: read in place, since a copy would take longer than a sum.
+    /// Its table, in units: read in place, since a copy would take longer than a sum. Each arm names two statics, so that what is
+    /// chosen is shown by computing.
     pub fn table(self) -> Table
         ensures stretches { result.stretches.now ≡ units self }
         ensures counts { result.counts.now ≡ in_units self }
