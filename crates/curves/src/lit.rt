@@ -1,6 +1,6 @@
 // A row of reflected light under an illuminant, weighed by the curves. The two rows that it is held in are lent: as a struct's
 // own they would be cleared and copied at each call, which takes longer than the sums.
-ghost use Rattle.std.specs.Prelude.{◌≡◌, ◌≤◌, ◌^◌};
+ghost use Rattle.std.specs.Prelude.{◌≡◌, ◌≤◌, ◌^◌, length};
 ghost use Rattle.grid.specs.Check.{Within};
 ghost use Rattle.mixing.specs.Sum.{weighted};
 ghost use Rattle.tables.specs.Curves.{weight_of};
@@ -16,6 +16,7 @@ pub fn light(illuminant: Illuminant, high: &mut [u64; 471], low: &mut [u64; 471]
     ensures lit { IsLit illuminant low.old high.new low.new }
     ensures high_small { Within 10000000 high.new }
     ensures low_small { Within 2097151 low.new }
+    ensures long { (length high.new ≡ 471) × (length low.new ≡ 471) }
 {
     let powers = illuminant.powers();
     // By place: of two rows that are changed through one chain nothing is known behind it.

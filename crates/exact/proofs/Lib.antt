@@ -1,2 +1,3 @@
 -- Laws of quotients.
 pub mod Quotient
+pub mod Shifted

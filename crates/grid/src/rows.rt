@@ -88,19 +88,28 @@ impl Sampled for u16 {
     }
 }
 
-/// SAMPLE or REFLECTANCE at the first number above the limit, in a row that is no longer than a grid allows. Its place is
-/// looked for only where there is one.
-#[tactic(auto, unfolding(crate::specs::Check::limit_check))]
+/// SAMPLE or REFLECTANCE at the first number above the limit of its kind, in a row that is no longer than a grid allows.
 pub fn check_limit<N: Sampled>(row: &[N]) -> Result<(), Refusal>
     requires { length row.now ≤ 531 }
     ensures { result ≡ limit_check N.FAULT N.LIMIT (N.values row.now) }
 {
-    if is_within(row) {
+    refuse_above(N::FAULT, N::LIMIT, row)
+}
+
+/// The refusal of this kind at the first number above this limit, whichever it is, in such a row. Its place is looked for only where
+/// there is one.
+#[inline]
+#[tactic(auto, unfolding(crate::specs::Check::limit_check))]
+pub fn refuse_above<N: Sampled>(kind: Kind, limit: u32, row: &[N]) -> Result<(), Refusal>
+    requires { length row.now ≤ 531 }
+    ensures { result ≡ limit_check kind limit (N.values row.now) }
+{
+    if is_within(limit, row) {
         return Ok(());
     }
-    match first_above(row) {
+    match first_above(limit, row) {
         Some(place) => Err(Refusal {
-            kind: N::FAULT,
+            kind,
             place: place as u32,
         }),
         None => Ok(()),
@@ -108,15 +117,15 @@ pub fn check_limit<N: Sampled>(row: &[N]) -> Result<(), Refusal>
 }
 
 // Whether no number is above the limit: a pass with no way out, which the machine takes several at a time.
-fn is_within<N: Sampled>(row: &[N]) -> bool
-    ensures { result ≡ fold (λ fine x. fine && nat_le (N.value x) N.LIMIT) true row.now }
+#[inline]
+fn is_within<N: Sampled>(limit: u32, row: &[N]) -> bool
+    ensures { result ≡ fold (λ fine x. fine && nat_le (N.value x) limit) true row.now }
 {
-    row.iter()
-        .fold(true, |fine, x| fine & (x.value() <= N::LIMIT))
+    row.iter().fold(true, |fine, x| fine & (x.value() <= limit))
 }
 
-fn first_above<N: Sampled>(row: &[N]) -> Option<usize>
-    ensures { result ≡ position (λ x. nat_lt N.LIMIT (N.value x)) row.now }
+fn first_above<N: Sampled>(limit: u32, row: &[N]) -> Option<usize>
+    ensures { result ≡ position (λ x. nat_lt limit (N.value x)) row.now }
 {
-    row.iter().position(|x| N::LIMIT < x.value())
+    row.iter().position(|x| limit < x.value())
 }

@@ -53,7 +53,7 @@ impl Input {
         let mut samples = [0; 532];
         fill(mode, draws, &mut samples[..count]);
         put_one(mode, draws, &mut samples[..count]);
-        let k = (draws.draw() % 1100) as u32;
+        let k = setting_from(draws.draw());
         let observer = observer_from(draws.draw());
         let illuminant = illuminant_from(draws.draw());
         let mut reflectances = [0; 532];
@@ -120,6 +120,12 @@ fn illuminant_from(d: u64) -> u32
     ensures { result ≡ illuminant_from d }
 {
     ILLUMINANTS[(d % 8) as usize]
+}
+
+fn setting_from(d: u64) -> u32
+    ensures { result ≡ d % 1100 }
+{
+    (d % 1100) as u32
 }
 
 // One count in eleven is odd for a grid; the others end from 780 to 830 nm where they can.

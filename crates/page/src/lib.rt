@@ -7,7 +7,7 @@ ghost use Rattle.std.specs.Prelude.{◌≡◌, length};
 ghost use Rattle.page.specs.Recorded.{recorded_figures};
 ghost use Rattle.page.specs.Answer.{report_answer, text_after};
 
-use crate::lines::page_of;
+use crate::lines::{Page, push_report};
 use grid::{Kind, Refusal, require};
 use readings::figures::{ReportFigures, figures};
 use record::unpack_record;
@@ -18,7 +18,8 @@ pub fn write_report(bytes: &[u8], text: &mut [u8]) -> Result<u32, Refusal>
     ensures value { result ≡ report_answer bytes.now (length text.old) }
     ensures text_after { text.new ≡ text_after bytes.now text.old }
 {
-    let page = page_of(recorded_figures(bytes));
+    let mut page = Page::new();
+    push_report(&mut page, recorded_figures(bytes));
     let report = page.as_str().as_bytes();
     let length = report.len();
     require(length <= text.len(), Kind::Room)?;

@@ -22,16 +22,16 @@ enum Shown {
     Refused(Refusal),
 }
 
-/// The seven lines, or the one line of a refusal.
-pub fn page_of(answer: Result<ReportFigures, Refusal>) -> Page
-    ensures { result.bytes ≡ text_of answer }
+/// The seven lines, or the one line of a refusal, on an empty page. It is lent: one that is given would be cleared and copied on its
+/// way.
+pub fn push_report(page: &mut Page, answer: Result<ReportFigures, Refusal>)
+    requires { array_string_len page.old ≡ 0 }
+    ensures { page.new.bytes ≡ text_of answer }
 {
-    let mut page = Page::new();
     match answer {
-        Ok(figures) => push_figures(&mut page, figures),
-        Err(refusal) => push_line(&mut page, "refused ", Shown::Refused(refusal)),
+        Ok(figures) => push_figures(page, figures),
+        Err(refusal) => push_line(page, "refused ", Shown::Refused(refusal)),
     }
-    page
 }
 
 fn push_figures(page: &mut Page, figures: ReportFigures)
@@ -60,7 +60,9 @@ fn push_colour(page: &mut Page, xy: Result<Xy, Refusal>)
     }
 }
 
-// A word, what it shows, and the newline: at most 25 bytes behind the word.
+// A word, what it shows, and the newline: at most 25 bytes behind the word. Where it is called the compiler knows the word, and
+// that it lies apart from the page, so it needs no function from outside that copies what may overlap.
+#[inline(always)]
 fn push_line(page: &mut Page, word: &str, shown: Shown)
     requires { array_string_len page.old + length word.now + 25 ≤ 256 }
     ensures text { page.new.bytes ≡ page.old.bytes ++ line word.now (shown_text shown) }

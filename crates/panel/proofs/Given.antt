@@ -1,9 +1,9 @@
 -- What is given of a panel that is accepted.
-use Rattle.std.proofs.Common.{◌≡◌, refl, List, ℕ, Result, Ok, Err}
+use Rattle.std.proofs.Common.{◌≡◌, refl, List, ℕ, Result, Ok, Err, length}
 use Rattle.std.specs.Bool.{⊤}
 use Rattle.grid.specs.declared.refusals.Kind.TheVariants.{Reflectance}
 use Rattle.grid.specs.declared.refusals.Refusal.{Refusal}
-use Rattle.grid.specs.Check.{Fine, ◌>>=◌, grid_check, reflected_check}
+use Rattle.grid.specs.Check.{Fine, ◌>>=◌, grid_check, limit_check, spectrum_check, reflected_check}
 use Rattle.tables.specs.declared.Illuminant.{Illuminant}
 use Rattle.tables.specs.declared.settings.Observer.{Observer}
 use Rattle.tables.specs.Settings.{observer_of, illuminant_of}
@@ -33,6 +33,35 @@ setting_of o i a s n fine =
     let first = waited (observer_of o) _ fine in
     let second = waited (illuminant_of i) _ first.2 in
     record { observer = first.0; illuminant = second.0; sees = first.1; lights = second.1; grid = second.2 }
+
+-- a panel is checked by its setting, and then by its reflectances
+pub panel_split :
+    (o i a s : ℕ) (rs : List ℕ) →
+    panel_check o i a s rs ≡ (setting_check o i a s (length rs) >>= (λ _. limit_check Reflectance 10000 rs))
+unfolding panel_check seen_of setting_check spectrum_of spectrum_check
+panel_split o i a s rs = go (observer_of o) (illuminant_of i) (grid_check a s (length rs)) (limit_check Reflectance 10000 rs)
+  where
+    seen : Result Observer Refusal → Result Illuminant Refusal → Result ⊤ Refusal → Result ⊤ Refusal → Result (Observer × Illuminant × Measured) Refusal
+    seen observer illuminant grid limit = do
+      x ← observer
+      y ← illuminant
+      z ← (grid >>= (λ _. limit)) >>= (λ _. Ok (record { start = a; step = s; samples = rs }))
+      Ok (x, y, z)
+
+    set : Result Observer Refusal → Result Illuminant Refusal → Result ⊤ Refusal → Result ⊤ Refusal
+    set observer illuminant grid = do
+      _ ← observer
+      _ ← illuminant
+      grid
+
+    go :
+        (observer : Result Observer Refusal) (illuminant : Result Illuminant Refusal) (grid limit : Result ⊤ Refusal) →
+        (seen observer illuminant grid limit >>= (λ _. Fine)) ≡ (set observer illuminant grid >>= (λ _. limit))
+    go (Ok x) (Ok y) (Ok u) (Ok v) = refl
+    go (Ok x) (Ok y) (Ok u) (Err r) = refl
+    go (Ok x) (Ok y) (Err r) limit = refl
+    go (Ok x) (Err r) grid limit = refl
+    go (Err r) illuminant grid limit = refl
 
 -- and those of a panel that is accepted
 pub record SeenPanel (o i a s : ℕ) (rs : List ℕ) : Type 0 where

@@ -1,8 +1,10 @@
 -- The open functions between crates are determined too: two results that a contract allows for the same arguments are
 -- equal. `Determined` shows it of the functions that face callers.
-use mathlib.Core.Path.{◌≡◌, refl}
+use mathlib.Core.Path.{◌≡◌, ◌∙◌, refl, sym}
 use mathlib.Core.List.{List}
 use Prim.Native.Nat.{ℕ}
+use native.Mathlib.Omega.{arith}
+use lib.Seq.{ext_get_or}
 use denote.RattleType.{RattleType}
 use denote.Param.Laws.{Laws, IsCopy}
 use mir.Syntax.{Dict}
@@ -16,6 +18,7 @@ use Rattle.grid.proofs.refusals.require.Reads as require
 use Rattle.grid.proofs.rows.U32Sampled.value.Reads as sample_value
 use Rattle.grid.proofs.rows.U16Sampled.value.Reads as reflectance_value
 use Rattle.grid.proofs.rows.check_limit.Reads as check_limit
+use Rattle.grid.proofs.rows.refuse_above.Reads as refuse_above
 use Rattle.grid.proofs.check_grid.Reads as check_grid
 use Rattle.grid.proofs.check_spectrum.Reads as check_spectrum
 use Rattle.tables.proofs.Curve.table.Reads as table
@@ -25,8 +28,11 @@ use Rattle.tables.proofs.settings.ObserverTryFromU32.try_from.Reads as observer_
 use Rattle.tables.proofs.settings.IlluminantTryFromU32.try_from.Reads as illuminant_from
 use Rattle.tables.specs.declared.units.Stretch.{Stretch}
 use Rattle.curves.proofs.weigh.weigh.Reads as weigh
+use Rattle.curves.proofs.lit.light.Reads as light
 use Rattle.curves.proofs.lit.weigh_lit.Reads as weigh_lit
 use Rattle.efficacy.proofs.divisor.Reads as divisor
+use Rattle.spectrum.proofs.line.begin_at_360.Reads as begin_at_360
+use Rattle.spectrum.proofs.line.lay.Reads as lay_part
 use Rattle.spectrum.proofs.Spectrum.new.Reads as new_spectrum
 use Rattle.spectrum.proofs.Spectrum.step.Reads as step
 use Rattle.spectrum.proofs.Spectrum.lay.Reads as lay
@@ -72,6 +78,9 @@ one_reflectance_value k a r q e f p s = same p s
 one_check_limit : OfNumbers (λ T l c n d m b. OneResult (check_limit.Post T l c n d m b))
 one_check_limit T l c n d m b k a r q e f p s = same p s
 
+one_refuse_above : OfNumbers (λ T l c n d m b. OneResult (refuse_above.Post T l c n d m b))
+one_refuse_above T l c n d m b k a r q e f p s = same p s
+
 one_check_grid : OneResult check_grid.Post
 one_check_grid k a r q e f p s = same p s
 
@@ -100,6 +109,20 @@ one_illuminant_from k a r q e f p s = same p s
 one_weigh : OneResult weigh.Post
 one_weigh k a r q e f p s = same p.0 s.0
 
+one_light : OneResult light.Post
+one_light k a r q e f p s = refl
+
+-- two numbers are fixed by what they make together, where the low one is below 2^21
+left_light_high : OneExit (λ e. e.1.0.now) light.Post
+left_light_high k a r q e f p s =
+    ext_get_or 0 e.1.0.now f.1.0.now (p.1.1.1.0 ∙ sym s.1.1.1.0)
+    (λ j h. omega (arith, p.1.1.1.0, p.0 j (omega (arith, p.1.1.1.0)), s.0 j (omega (arith, p.1.1.1.0)), p.1.1.0 j, s.1.1.0 j))
+
+left_light_low : OneExit (λ e. e.1.1.0.now) light.Post
+left_light_low k a r q e f p s =
+    ext_get_or 0 e.1.1.0.now f.1.1.0.now (p.1.1.1.1 ∙ sym s.1.1.1.1)
+    (λ j h. omega (arith, p.1.1.1.1, p.0 j (omega (arith, p.1.1.1.1)), s.0 j (omega (arith, p.1.1.1.1)), p.1.1.0 j, s.1.1.0 j))
+
 one_weigh_lit : OneResult weigh_lit.Post
 one_weigh_lit k a r q e f p s = same p.0 s.0
 
@@ -109,6 +132,18 @@ one_divisor : OneResult divisor.Post
 one_divisor k a r q e f p s = same p s
 
 -- spectrum
+
+one_begin_at_360 : OneResult begin_at_360.Post
+one_begin_at_360 k a r q e f p s =
+    let place = same p.place s.place in
+    let wavelength = same p.wavelength s.wavelength in
+    λ i. record { place = place i; wavelength = wavelength i }
+
+one_lay_part : OfNumbers (λ T l c n d m b. OneResult (lay_part.Post T l c n d m b))
+one_lay_part T l c n d m b k a r q e f p s = refl
+
+left_lay_part : OfNumbers (λ T l c n d m b. OneExit (λ e. e.1.1.1.0.now) (lay_part.Post T l c n d m b))
+left_lay_part T l c n d m b k a r q e f p s = same p s
 
 one_new_spectrum : OfNumbers (λ T l c n d m b. OneResult (new_spectrum.Post T l c n d m b))
 one_new_spectrum T l c n d m b k a r q e f p s = same p s

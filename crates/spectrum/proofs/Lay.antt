@@ -13,7 +13,9 @@ use Rattle.grid.specs.Check.{last_of}
 use Rattle.grid.specs.Accepted.{OnGrid}
 use Rattle.grid.proofs.Filled.{fill_more}
 use Rattle.spectrum.specs.Line.{line_at, T}
+use Rattle.spectrum.specs.Begin.{Begins}
 use Rattle.spectrum.specs.Lay.{listed, row_of, Part, AtEnd, LaidTo}
+use Rattle.spectrum.specs.declared.line.Begin.{Begin}
 use Rattle.spectrum.proofs.EndRule.{first_carried, last_carried}
 use Rattle.spectrum.proofs.Measured.{line_at_lem, T_measured, T_below, T_from_last, T_from}
 
@@ -125,3 +127,7 @@ module _ (a s : ℕ) (xs : List ℕ) (on : OnGrid a s (length xs)) where
           let high : 360 < a = leb-false a 360 e in
           let none : 360 - a ≡ 0 = omega arith in
           rw (none, zero-div, mul-zero, add-zero)
+
+  -- a begin that is found is there
+  pub row_begun : (b : Begin) → Begins a s b → row_of b.wavelength s (drop b.place xs) ≡ row_of a s xs
+  row_begun b is = rw (is.place, is.wavelength) row_from

@@ -1,7 +1,7 @@
 -- What the row of samples within a limit is: small enough to be weighed, and W when it is, which has a bound.
 use mathlib.Core.Path.{◌≡◌, sym, ap, ◌∙◌}
 use mathlib.Core.List.{List}
-use Prim.Native.Nat.{ℕ, ◌+◌, ◌*◌, ◌-◌, ◌/◌, ◌≤◌}
+use Prim.Native.Nat.{ℕ, ◌+◌, ◌*◌, ◌≤◌}
 use native.Mathlib.Nat.{le_refl, le_trans, mul-le-mul_right}
 use lib.ListN.{length, drop}
 use Rattle.grid.specs.Accepted.{OnGrid}
@@ -10,9 +10,11 @@ use Rattle.grid.proofs.Limit.{within_row}
 use Rattle.mixing.specs.Sum.{total, weighted, entry_of}
 use Rattle.mixing.proofs.Sum.{weighted_ext, weighted_bound}
 use Rattle.spectrum.specs.Line.{T, W}
+use Rattle.spectrum.specs.Begin.{Begins}
 use Rattle.spectrum.specs.Lay.{listed, row_of}
+use Rattle.spectrum.specs.declared.line.Begin.{Begin}
 use Rattle.spectrum.proofs.Measured.{T_bound}
-use Rattle.spectrum.proofs.Lay.{length_listed, get_d_listed, row_from}
+use Rattle.spectrum.proofs.Lay.{length_listed, get_d_listed, row_begun}
 
 -- no place of the row is above 10 times the samples' limit
 pub row_within : (a s limit : ℕ) (xs : List ℕ) → 1 ≤ s → s ≤ 10 → Within limit xs → Within (10 * limit) (row_of a s xs)
@@ -32,11 +34,10 @@ row_weighed v a s xs =
 
 -- and from the sample at or just below 360 on it gives the same
 pub W_begun :
-    (v : ℕ → ℕ) (a s : ℕ) (xs : List ℕ) → OnGrid a s (length xs) →
-    W v (a + s * ((360 - a) / s)) s (drop ((360 - a) / s) xs) ≡ W v a s xs
-W_begun v a s xs on =
-    let j = (360 - a) / s in
-    sym (row_weighed v (a + s * j) s (drop j xs)) ∙ ap (λ (row : List ℕ). weighted 471 v (entry_of row)) (row_from a s xs on)
+    (v : ℕ → ℕ) (a s : ℕ) (xs : List ℕ) → OnGrid a s (length xs) → (b : Begin) → Begins a s b →
+    W v b.wavelength s (drop b.place xs) ≡ W v a s xs
+W_begun v a s xs on b is =
+    sym (row_weighed v b.wavelength s (drop b.place xs)) ∙ ap (λ (row : List ℕ). weighted 471 v (entry_of row)) (row_begun a s xs on b is)
     ∙ row_weighed v a s xs
 
 -- by any weights, no row within a limit passes the one that is at the limit everywhere

@@ -2,3 +2,4 @@
 pub mod Spectrum
 pub mod Line
 pub mod Lay
+pub mod Begin

@@ -1,13 +1,13 @@
 // A sampled spectrum that is accepted, and T, the spectrum times its step, at the whole nanometres 360 to 830.
 #![tactic(auto)]
 
-mod line;
+pub mod line;
 
 ghost use Rattle.std.specs.Prelude.{◌≡◌};
 ghost use Rattle.spectrum.specs.Lay.{row_of};
 ghost use Rattle.spectrum.specs.Spectrum.{Accepted, spectrum_of};
 
-use crate::line::lay;
+use crate::line::{begin_at_360, lay};
 use grid::rows::Sampled;
 use grid::{Refusal, check_spectrum};
 use std::marker::Model;
@@ -57,8 +57,8 @@ impl<'a, N: Sampled> Spectrum<'a, N> {
         ensures row { row.new ≡ row_of self.now.start self.now.step self.now.samples }
         ensures accepted { Accepted N.LIMIT self.now }
     {
-        let j = 360u32.saturating_sub(self.start) / self.step;
-        let first = self.start + self.step * j;
-        lay(first, self.step, &self.samples[j as usize..], row);
+        let begin = begin_at_360(self.start, self.step);
+        let j = begin.place;
+        lay(begin.wavelength, self.step, &self.samples[j..], row);
     }
 }

@@ -4,12 +4,32 @@
 // one place, and be a second spectrum beside that one.
 ghost use Rattle.std.specs.Prelude.{◌≡◌, ◌+◌, ◌*◌, ◌-◌, ◌^◌, ◌<◌, ◌≤◌, length, slice_index};
 ghost use Rattle.grid.specs.Check.{last_of};
+ghost use Rattle.spectrum.specs.Begin.{Begins};
 ghost use Rattle.spectrum.specs.Lay.{row_of, Part, AtEnd, LaidTo};
 
 use grid::rows::Sampled;
 
-/// Lays T of a part that begins at, above or just below 360 nm. Each step is named, so that the compiler knows it where the line
-/// is walked.
+/// Where the part of a row that carries weight begins: at the sample at or just below 360 nm, or at the first one.
+#[derive(Clone, Copy, Debug, PartialEq, Eq)]
+pub struct Begin {
+    pub place: usize,
+    pub wavelength: u32,
+}
+
+/// Looks for 360 nm in a row.
+pub fn begin_at_360(start: u32, step: u32) -> Begin
+    requires { (0 < step) × (start ≤ 380) }
+    ensures { Begins start step result }
+{
+    let j = 360u32.saturating_sub(start) / step;
+    Begin {
+        place: j as usize,
+        wavelength: start + step * j,
+    }
+}
+
+/// Lays T of a part that begins at, above or just below 360 nm, whatever its samples are. Each step is named, so that the compiler
+/// knows it where the line is walked.
 pub fn lay<N: Sampled>(first: u32, step: u32, part: &[N], row: &mut [u64; 471])
     requires { Part first step (length part.now) }
     ensures { row.new ≡ row_of first step (N.values part.now) }

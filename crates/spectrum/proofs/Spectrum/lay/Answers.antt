@@ -8,5 +8,5 @@ returns-clause-row g c =
     let its = c.self.inside in
     rw (← c.self.view_is)
     (c.lay.ensures
-    ∙ same_row g.N.Sampled.value g.N.Sampled.values g.met.N.Sampled.each its.start its.step c.saturating_sub.result its.samples.now
-    c.self.invariant.on c.saturating_sub.ensures)
+    ∙ same_row g.N.Sampled.value g.N.Sampled.values g.met.N.Sampled.each its.start its.step its.samples.now c.self.invariant.on
+    c.begin_at_360-begin.result c.begin_at_360-begin.ensures)

@@ -2,15 +2,15 @@
 use Rattle.std.proofs.Common.{sym, ◌∙◌}
 use Rattle.grid.specs.Check.{limit_check}
 use Rattle.grid.proofs.Limit.{first_above, none_above}
-use Rattle.grid.proofs.rows.check_limit.Goals as goal
+use Rattle.grid.proofs.rows.refuse_above.Goals as goal
 
 pub returns-then-is_within : goal.returns-then-is_within
 unfolding limit_check
 returns-then-is_within g c =
     let number = g.N.Sampled in
     rw (
-      first_above number.value number.LIMIT c.args.row.now _ (g.met.N.Sampled.each c.args.row.now),
-      none_above number.value number.LIMIT c.args.row.now (sym c.is_within.ensures ∙ c.if-is_within.true),
+      first_above number.value c.args.limit c.args.row.now _ (g.met.N.Sampled.each c.args.row.now),
+      none_above number.value c.args.limit c.args.row.now (sym c.is_within.ensures ∙ c.if-is_within.true),
     )
 
 pub returns-in-Some : goal.returns-in-Some
@@ -18,9 +18,8 @@ unfolding limit_check
 returns-in-Some g c =
     let number = g.N.Sampled in
     rw (
-      first_above number.value number.LIMIT c.args.row.now _ (g.met.N.Sampled.each c.args.row.now),
+      first_above number.value c.args.limit c.args.row.now _ (g.met.N.Sampled.each c.args.row.now),
       sym c.first_above.ensures ∙ c.in-Some.is,
-      c.FAULT.ensures,
     )
 
 pub returns-in-None : goal.returns-in-None
@@ -28,6 +27,6 @@ unfolding limit_check
 returns-in-None g c =
     let number = g.N.Sampled in
     rw (
-      first_above number.value number.LIMIT c.args.row.now _ (g.met.N.Sampled.each c.args.row.now),
+      first_above number.value c.args.limit c.args.row.now _ (g.met.N.Sampled.each c.args.row.now),
       sym c.first_above.ensures ∙ c.in-None.is,
     )
